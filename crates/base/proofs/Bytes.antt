@@ -1,0 +1,118 @@
+-- Numbers in bytes: laws over the width and the byte order. Assumes nothing.
+use mathlib.Core.Path.{_≡_, refl, sym, ap, subst, _∙_}
+use mathlib.Core.List.{List, [], _∷_, _++_, reverse, reverseAux, reverse-reverse}
+use Prim.Native.Nat.{ℕ, zero, suc, _+_, _*_, _/_, _%_, _^_, _≤_, _<_}
+use native.Mathlib.Nat.{add-zero, add-suc}
+use native.Mathlib.Numerals.{add-one}
+use native.Mathlib.Omega.{arith}
+use lib.ListN.{length, take, drop, getD, replicate, length-reverse, length-append, length-drop}
+use lib.Seq.{drop-cons, getD-append-add, getD-drop}
+use Rattle.base.specs.Bytes.{Bytes, plus, from, bytesAt, Order, little, big, inOrder, sum, digits, number, bytesOf, top}
+
+-- bytes of lists
+pub bytes-append : (xs ys : List ℕ) → Bytes xs → Bytes ys → Bytes (xs ++ ys)
+bytes-append [] ys p q = q
+bytes-append (x ∷ xs) ys p q = (p .0, bytes-append xs ys (p .1) q)
+
+pub bytes-zeros : (n : ℕ) → Bytes (replicate n 0)
+bytes-zeros zero = tt
+bytes-zeros (suc n) = (omega arith, bytes-zeros n)
+
+pub bytes-take : (n : ℕ) (bs : List ℕ) → Bytes bs → Bytes (take n bs)
+bytes-take zero bs b = tt
+bytes-take (suc n) [] b = tt
+bytes-take (suc n) (x ∷ xs) b = (b .0, bytes-take n xs (b .1))
+
+pub bytes-drop : (n : ℕ) (bs : List ℕ) → Bytes bs → Bytes (drop n bs)
+bytes-drop zero bs b = b
+bytes-drop (suc n) [] b = tt
+bytes-drop (suc n) (x ∷ xs) b = bytes-drop n xs (b .1)
+
+pub byte-at : (r : List ℕ) → Bytes r → (i : ℕ) → getD r i 0 < 256
+byte-at [] b i = omega arith
+byte-at (x ∷ xs) b zero = b .0
+byte-at (x ∷ xs) b (suc i) = byte-at xs (b .1) i
+
+bytes-reverseAux : (xs ys : List ℕ) → Bytes xs → Bytes ys → Bytes (reverseAux xs ys)
+bytes-reverseAux [] ys p q = q
+bytes-reverseAux (x ∷ xs) ys p q = bytes-reverseAux xs (x ∷ ys) (p .1) (p .0, q)
+
+-- the order changes nothing of these
+pub bytes-order : (o : Order) (bs : List ℕ) → Bytes bs → Bytes (inOrder o bs)
+bytes-order little bs b = b
+bytes-order big bs b = bytes-reverseAux bs [] b tt
+
+pub length-order : (o : Order) (bs : List ℕ) → length (inOrder o bs) ≡ length bs
+length-order little bs = refl
+length-order big bs = length-reverse bs
+
+order-twice : (o : Order) (bs : List ℕ) → inOrder o (inOrder o bs) ≡ bs
+order-twice little bs = refl
+order-twice big bs = reverse-reverse bs
+
+length-digits : (n v : ℕ) → length (digits n v) ≡ n
+length-digits zero v = refl
+length-digits (suc n) v = ap suc (length-digits n (v / 256))
+
+bytes-digits : (n v : ℕ) → Bytes (digits n v)
+bytes-digits zero v = tt
+bytes-digits (suc n) v = (omega arith, bytes-digits n (v / 256))
+
+sum-digits : (n v : ℕ) → v < top n → sum (digits n v) ≡ v
+sum-digits zero v h = omega arith
+sum-digits (suc n) v h =
+    let p : v / 256 < top n = omega arith in
+    omega (arith, sum-digits n (v / 256) p)
+
+sum-below : (bs : List ℕ) → Bytes bs → sum bs < top (length bs)
+sum-below [] b = omega arith
+sum-below (x ∷ xs) b = omega (arith, sum-below xs (b .1), b .0)
+
+digits-sum : (bs : List ℕ) → Bytes bs → digits (length bs) (sum bs) ≡ bs
+digits-sum [] b = refl
+digits-sum (x ∷ xs) b =
+    let p : (x + 256 * sum xs) % 256 ≡ x = omega (arith, b .0) in
+    let q : (x + 256 * sum xs) / 256 ≡ sum xs = omega (arith, b .0) in
+    rw (p, q, digits-sum xs (b .1))
+
+-- the laws
+pub length-bytesOf : (o : Order) (n v : ℕ) → length (bytesOf o n v) ≡ n
+length-bytesOf o n v = length-order o (digits n v) ∙ length-digits n v
+
+pub bytes-bytesOf : (o : Order) (n v : ℕ) → Bytes (bytesOf o n v)
+bytes-bytesOf o n v = bytes-order o (digits n v) (bytes-digits n v)
+
+-- a number's bytes read back
+pub number-bytesOf : (o : Order) (n v : ℕ) → v < top n → number o (bytesOf o n v) ≡ v
+number-bytesOf o n v h = ap sum (order-twice o (digits n v)) ∙ sum-digits n v h
+
+pub number-below : (o : Order) (bs : List ℕ) → Bytes bs → number o bs < top (length bs)
+number-below o bs b = subst (λ (n : ℕ). number o bs < top n) (length-order o bs) (sum-below (inOrder o bs) (bytes-order o bs b))
+
+-- bytes are those of their number
+pub bytesOf-number : (o : Order) (bs : List ℕ) → Bytes bs → bytesOf o (length bs) (number o bs) ≡ bs
+bytesOf-number o bs b =
+    ap (λ (n : ℕ). bytesOf o n (number o bs)) (sym (length-order o bs)) ∙ ap (inOrder o) (digits-sum (inOrder o bs) (bytes-order o bs b)) ∙ order-twice o bs
+
+-- a big-endian number
+pub big-example : number big (1 ∷ 2 ∷ 3 ∷ 4 ∷ []) ≡ 16909060
+big-example = refl
+
+pub big-bytes : bytesOf big 2 513 ≡ 2 ∷ 1 ∷ []
+big-bytes = refl
+
+pub plus-eq : (at k : ℕ) → plus at k ≡ at + k
+plus-eq at zero = sym (add-zero at)
+plus-eq at (suc k) = refl
+
+-- the bytes at a place are that part of the list
+from-part : (s : List ℕ) (at k n : ℕ) → at + k + n ≤ length s → from s at k n ≡ take n (drop (at + k) s)
+from-part s at k zero h = refl
+from-part s at k (suc n) h =
+    let p : at + k < length s = omega arith in
+    let e : plus at k ≡ at + k = plus-eq at k in
+    let f : at + suc k ≡ suc (at + k) = omega arith in
+    rw (drop-cons s (at + k) 0 p, e) (ap (_∷_ (getD s (at + k) 0)) (from-part s at (suc k) n (omega arith) ∙ rw f))
+
+pub bytesAt-part : (s : List ℕ) (at n : ℕ) → at + n ≤ length s → bytesAt s at n ≡ take n (drop at s)
+bytesAt-part s at n h = from-part s at 0 n (omega arith) ∙ rw add-zero

@@ -1,0 +1,91 @@
+-- What a list of checks answers. Assumes nothing.
+use Prim.Native.Nat.{ℕ}
+use mathlib.Core.Bool.{Bool, true, false}
+use mathlib.Core.Option.{Option, none, some}
+use mathlib.Core.Path.{_≡_, refl, sym, ap, _∙_}
+use mathlib.Core.List.{List, [], _∷_, _++_}
+use mathlib.Core.Logic.{_⊎_, inl, inr, ⊎-elim}
+use native.Mathlib.Omega.{arith}
+use lib.Dec.{eqb}
+use types.Run.{OneOf}
+use borrow.Author.Tests.{eq-eqb, ne-eqb}
+use Rattle.base.specs.Pick.{pick, among}
+use Rattle.base.specs.Said.{Said, gives, refuses, refusal}
+use Rattle.base.specs.declared.Answer.{Answer}
+use Rattle.base.specs.declared.Answer.the-variants.{Done, Refused}
+use Rattle.base.specs.Checks.{Check, checked, first-fail, answer, Holding, AllHold, FirstFail}
+
+-- what an answer says determines it
+pub refusal-injective : (a b : Answer) → refusal a ≡ refusal b → a ≡ b
+refusal-injective Done Done h = refl
+refusal-injective Done (Refused k) h = let w : _≡_ {A = ℕ} 0 1 = cc in absurd (omega arith)
+refusal-injective (Refused k) Done h = let w : _≡_ {A = ℕ} 0 1 = cc in absurd (omega arith)
+refusal-injective (Refused k) (Refused j) h =
+    let e : k ≡ j = cc in
+    ap Refused e
+
+-- no check fails: all hold
+pub none-fails : (cs : List Check) → first-fail cs ≡ none → AllHold cs
+none-fails [] h = tt
+none-fails (c ∷ cs) h = go (none-fails cs) (c .holds) refl h
+  where
+    go : (first-fail cs ≡ none → AllHold cs) → (b : Bool) → c .holds ≡ b → pick b (first-fail cs) (some (c .number)) ≡ none → Holding c × AllHold cs
+    go ih true q e = (q, ih e)
+    go ih false q e = let w : _≡_ {A = ℕ} 0 1 = cc in absurd (omega arith)
+
+pub all-hold : (cs : List Check) → AllHold cs → first-fail cs ≡ none
+all-hold [] h = refl
+all-hold (c ∷ cs) h = rw (h .0) (all-hold cs (h .1))
+
+-- a refusal's number is that of the first check that fails, and every earlier one holds
+pub fails-first : (cs : List Check) (k : ℕ) → first-fail cs ≡ some k → FirstFail cs k
+fails-first [] k h = let w : _≡_ {A = ℕ} 0 1 = cc in absurd (omega arith)
+fails-first (c ∷ cs) k h = go (fails-first cs k) (c .holds) refl h
+  where
+    go : (first-fail cs ≡ some k → FirstFail cs k) → (b : Bool) → c .holds ≡ b → pick b (first-fail cs) (some (c .number)) ≡ some k → FirstFail (c ∷ cs) k
+    go ih false q e = record { before = []; check = c; behind = cs; parts = refl; holding = tt; fails = q; number = cc }
+    go ih true q e =
+        let f : FirstFail cs k = ih e in
+        record {
+          before = c ∷ f .before;
+          check = f .check;
+          behind = f .behind;
+          parts = ap (_∷_ c) (f .parts);
+          holding = (q, f .holding);
+          fails = f .fails;
+          number = f .number;
+        }
+
+-- by cases on what the checks answer
+abbrev pub onFail : {A : Type 0} → Option ℕ → (ℕ → A) → A → A
+onFail none deny grant = grant
+onFail (some k) deny grant = deny k
+
+pub checked-fail : {A : Type 0} (cs : List Check) (deny : ℕ → A) (grant : A) → checked cs deny grant ≡ onFail (first-fail cs) deny grant
+checked-fail [] deny grant = refl
+checked-fail (c ∷ cs) deny grant = go (c .holds) (checked-fail cs deny grant)
+  where
+    go : (b : Bool) → checked cs deny grant ≡ onFail (first-fail cs) deny grant
+        → pick b (checked cs deny grant) (deny (c .number)) ≡ onFail (pick b (first-fail cs) (some (c .number))) deny grant
+    go true ih = ih
+    go false ih = refl
+
+-- checks in two lists, one after the other
+pub checked-append : {A : Type 0} (cs ds : List Check) (deny : ℕ → A) (grant : A) → checked (cs ++ ds) deny grant ≡ checked cs deny (checked ds deny grant)
+checked-append [] ds deny grant = refl
+checked-append (c ∷ cs) ds deny grant = rw (checked-append cs ds deny grant)
+
+-- a number that is one of a list of keys, and one that is none of them
+later : (b : Bool) (c : Bool) → c ≡ true → pick b true c ≡ true
+later true c e = refl
+later false c e = e
+
+pub among-in : (x : ℕ) (ks : List ℕ) → OneOf ks x → among x ks ≡ true
+among-in x [] h = absurd h
+among-in x (k ∷ []) h = simp (eq-eqb _ _ h)
+among-in x (k ∷ l ∷ ks) h = ⊎-elim (λ e. simp (eq-eqb x k e)) (λ e. later (eqb x k) (among x (l ∷ ks)) (among-in x (l ∷ ks) e)) h
+
+pub among-out : (x : ℕ) (ks : List ℕ) → (OneOf ks x → ⊥) → among x ks ≡ false
+among-out x [] n = refl
+among-out x (k ∷ []) n = simp (ne-eqb _ _ n)
+among-out x (k ∷ l ∷ ks) n = simp (ne-eqb x k (λ e. n (inl e))) (among-out x (l ∷ ks) (λ e. n (inr e)))

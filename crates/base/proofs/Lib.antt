@@ -1,0 +1,4 @@
+pub mod Tests
+pub mod Bytes
+pub mod Put
+pub mod Checks

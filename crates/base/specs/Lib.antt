@@ -1,0 +1,5 @@
+pub mod Pick
+pub mod Bytes
+pub mod Put
+pub mod Said
+pub mod Checks

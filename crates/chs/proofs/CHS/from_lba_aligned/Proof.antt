@@ -1,0 +1,52 @@
+use Prim.Native.Nat.{_-_}
+use native.Mathlib.Omega.{arith}
+use Rattle.base.proofs.Tests.{tests}
+use Rattle.chs.proofs.Small.{quotient}
+use borrow.Author.Needs.{needs}
+use Rattle.chs.proofs.CHS.from_lba_aligned.Statement.{statement}
+use Rattle.chs.proofs.CHS.from_lba_aligned.Tie as tie
+
+returns : tie.Need-returns
+returns c = search tests
+
+cylinder-size-requires : tie.Need-cylinder-size-requires
+cylinder-size-requires c κs = search needs
+
+returns-2 : tie.Need-returns-2
+returns-2 c = rw (← c .before .cylinder-size .ensures .0) (search tests)
+
+sub-cylinder : tie.Need-sub-cylinder
+sub-cylinder c = search needs
+
+div-cylinder : tie.Need-div-cylinder
+div-cylinder c = search needs
+
+add-cylinder : tie.Need-add-cylinder
+add-cylinder c = omega (arith, quotient (c .before .before .before .args .lba - 1) (c .before .cylinder-size .result))
+
+returns-3 : tie.Need-returns-3
+returns-3 c = rw (← c .before .before .cylinder-size .ensures .0) (search tests)
+
+returns-4 : tie.Need-returns-4
+returns-4 c = rw (← c .before .before .before .cylinder-size .ensures .0) (search tests)
+
+cast-t10 : tie.Need-cast-t10
+cast-t10 c = search needs
+
+returns-5 : tie.Need-returns-5
+returns-5 c = rw (← c .before .before .before .cylinder-size .ensures .0) (search tests)
+
+pub from-lba-aligned-spec : {M : Type 1} → statement M
+from-lba-aligned-spec =
+    tie.close
+    (tie.spec
+    returns
+    cylinder-size-requires
+    returns-2
+    sub-cylinder
+    div-cylinder
+    add-cylinder
+    returns-3
+    returns-4
+    cast-t10
+    returns-5)

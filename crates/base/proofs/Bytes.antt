@@ -2,12 +2,15 @@
 use mathlib.Core.Path.{_≡_, refl, sym, ap, subst, _∙_}
 use mathlib.Core.List.{List, [], _∷_, _++_, reverse, reverseAux, reverse-reverse}
 use Prim.Native.Nat.{ℕ, zero, suc, _+_, _*_, _/_, _%_, _^_, _≤_, _<_}
-use native.Mathlib.Nat.{add-zero, add-suc}
+use native.Mathlib.Nat.{add-zero}
 use native.Mathlib.Numerals.{add-one}
 use native.Mathlib.Omega.{arith}
-use lib.ListN.{length, take, drop, getD, replicate, length-reverse, length-append, length-drop}
-use lib.Seq.{drop-cons, getD-append-add, getD-drop}
-use Rattle.base.specs.Bytes.{Bytes, plus, from, bytesAt, Order, little, big, inOrder, sum, digits, number, bytesOf, top}
+use lib.ListN.{length, take, drop, getD, replicate, length-reverse, drop-of-length-le}
+use lib.Seq.{drop-cons}
+use lib.Dec.{eqb}
+use mathlib.Core.Bool.{true, false, _&&_}
+use borrow.Author.Tests.{eq-eqb, ne-eqb}
+use Rattle.base.specs.Bytes.{Bytes, plus, from, bytesAt, standsAt, Order, little, big, inOrder, sum, digits, number, bytesOf, top}
 
 -- bytes of lists
 pub bytes-append : (xs ys : List ℕ) → Bytes xs → Bytes ys → Bytes (xs ++ ys)
@@ -116,3 +119,19 @@ from-part s at k (suc n) h =
 
 pub bytesAt-part : (s : List ℕ) (at n : ℕ) → at + n ≤ length s → bytesAt s at n ≡ take n (drop at s)
 bytesAt-part s at n h = from-part s at 0 n (omega arith) ∙ rw add-zero
+
+-- one letter of a word
+module _ (s w : List ℕ) (at i : ℕ) where
+  letter : i < length w → standsAt s (at + i) (drop i w) ≡ (eqb (getD s (at + i) 0) (getD w i 0) && standsAt s (at + (i + 1)) (drop (i + 1) w))
+  letter h =
+      let e : at + i + 1 ≡ at + (i + 1) = omega arith in
+      rw (drop-cons w i 0 h, e, add-one i)
+
+  pub letter-same : i < length w → getD s (at + i) 0 ≡ getD w i 0 → standsAt s (at + i) (drop i w) ≡ standsAt s (at + (i + 1)) (drop (i + 1) w)
+  letter-same h e = letter h ∙ rw (eq-eqb _ _ e)
+
+  pub letter-other : i < length w → (getD s (at + i) 0 ≡ getD w i 0 → ⊥) → standsAt s (at + i) (drop i w) ≡ false
+  letter-other h e = letter h ∙ rw (ne-eqb _ _ e)
+
+  pub word-end : length w ≤ i → standsAt s (at + i) (drop i w) ≡ true
+  word-end h = rw (drop-of-length-le w h)

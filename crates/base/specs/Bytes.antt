@@ -2,6 +2,8 @@
 use Prim.Native.Nat.{ℕ, zero, suc, _+_, _*_, _/_, _%_, _<_}
 use mathlib.Core.List.{List, [], _∷_, reverse}
 use mathlib.Core.Path.{_≡_}
+use mathlib.Core.Bool.{Bool, true, _&&_}
+use lib.Dec.{eqb}
 use lib.ListN.{length, getD}
 
 -- every element is a byte
@@ -26,6 +28,11 @@ from s at k (suc n) = getD s (plus at k) 0 ∷ from s at (suc k) n
 -- the n bytes of s from index at on; past the end, zeros
 abbrev pub bytesAt : List ℕ → ℕ → ℕ → List ℕ
 bytesAt s at n = from s at 0 n
+
+-- does the word stand in s from index at on
+abbrev pub standsAt : List ℕ → ℕ → List ℕ → Bool
+standsAt s at [] = true
+standsAt s at (w ∷ ws) = eqb (getD s at 0) w && standsAt s (at + 1) ws
 
 -- which byte of a number stands first
 pub data Order : Type 0 where

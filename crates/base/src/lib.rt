@@ -3,7 +3,7 @@ ghost use mathlib.Core.Path.{_≡_};
 ghost use Prim.Native.Nat.{_+_, _≤_, _<_};
 ghost use mathlib.Core.List.{List, [], _∷_};
 ghost use lib.ListN.{length};
-ghost use Rattle.base.specs.Bytes.{number, bytesOf, bytesAt, little};
+ghost use Rattle.base.specs.Bytes.{number, bytesOf, bytesAt, standsAt, little};
 ghost use Rattle.base.specs.Put.{put};
 
 // What a call that changes lent bytes, or returns a value beside it, says.
@@ -72,4 +72,17 @@ pub fn copy_in(d: &mut [u8], at: usize, src: &[u8])
     for i in 0..src.len() {
         d[at + i] = src[i];
     }
+}
+
+// Does the word stand in `s` from index `at` on?
+pub fn stands_at(s: &[u8], at: usize, word: &[u8]) -> bool
+    requires { ⌜ at + length (now word) ≤ length (now s) ⌝ }
+    ensures { λ r. ⌜ r ≡ standsAt (now (s .entry)) at (now (word .entry)) ⌝ }
+{
+    for i in 0..word.len() {
+        if s[at + i] != word[i] {
+            return false;
+        }
+    }
+    true
 }

@@ -1,0 +1,109 @@
+// A partition entry of an MBR or EBR record: 16 bytes.
+use chs::CHS;
+ghost use mathlib.Core.Path.{_≡_};
+ghost use Prim.Native.Nat.{_+_, _≤_};
+ghost use lib.ListN.{length};
+ghost use Rattle.base.specs.Put.{put};
+ghost use Rattle.entry.specs.Entry.{entryAt, entryBytes, noEntry, flagOk, used, unused, extended, active};
+
+pub const BOOT_ACTIVE: u8 = 0x80;
+
+pub const BOOT_INACTIVE: u8 = 0x00;
+
+pub struct MBRPartitionEntry {
+    pub boot: u8,
+    pub first_chs: CHS,
+    pub sys: u8,
+    pub last_chs: CHS,
+    pub starting_lba: u32,
+    pub sectors: u32,
+}
+
+impl MBRPartitionEntry {
+    pub fn empty() -> MBRPartitionEntry
+        ensures { λ r. ⌜ r ≡ noEntry ⌝ }
+    {
+        let none = CHS::empty();
+        MBRPartitionEntry {
+            boot: BOOT_INACTIVE,
+            first_chs: none,
+            sys: 0,
+            last_chs: none,
+            starting_lba: 0,
+            sectors: 0,
+        }
+    }
+
+    pub fn is_used(self) -> bool
+        ensures { λ r. ⌜ r ≡ used (self .sys) ⌝ }
+    {
+        self.sys != 0
+    }
+
+    pub fn is_unused(self) -> bool
+        ensures { λ r. ⌜ r ≡ unused (self .sys) ⌝ }
+    {
+        self.sys == 0
+    }
+
+    pub fn is_extended(self) -> bool
+        ensures { λ r. ⌜ r ≡ extended (self .sys) ⌝ }
+    {
+        let sys = self.sys;
+        match sys {
+            0x05 | 0x0F | 0x85 | 0xC5 | 0xD5 => true,
+            _ => false,
+        }
+    }
+
+    pub fn is_active(self) -> bool
+        ensures { λ r. ⌜ r ≡ active self ⌝ }
+    {
+        self.boot == BOOT_ACTIVE
+    }
+
+    // The flag rule: 00 or 80.
+    pub fn check(self) -> bool
+        ensures { λ r. ⌜ r ≡ flagOk self ⌝ }
+    {
+        let boot = self.boot;
+        match boot {
+            0x00 | 0x80 => true,
+            _ => false,
+        }
+    }
+}
+
+// The entry in the 16 bytes from index `at` on.
+pub fn read(s: &[u8], at: usize) -> MBRPartitionEntry
+    requires { ⌜ at + 16 ≤ length (now s) ⌝ }
+    ensures { λ r. ⌜ r ≡ entryAt (now (s .entry)) at ⌝ }
+{
+    let first = chs::read(s, at + 1);
+    let last = chs::read(s, at + 5);
+    let start = base::get32(s, at + 8);
+    let sectors = base::get32(s, at + 12);
+    MBRPartitionEntry {
+        boot: s[at],
+        first_chs: first,
+        sys: s[at + 4],
+        last_chs: last,
+        starting_lba: start,
+        sectors: sectors,
+    }
+}
+
+// The entry into the 16 bytes from index `at` on.
+pub fn write(d: &mut [u8], at: usize, e: MBRPartitionEntry)
+    requires { ⌜ at + 16 ≤ length (now d) ⌝ }
+    ensures { λ _. ⌜ now (d .exit) ≡ put (now (d .entry)) at (entryBytes e) ⌝ }
+{
+    base::put8(d, at, e.boot);
+    let first = e.first_chs;
+    chs::write(d, at + 1, first);
+    base::put8(d, at + 4, e.sys);
+    let last = e.last_chs;
+    chs::write(d, at + 5, last);
+    base::put32(d, at + 8, e.starting_lba);
+    base::put32(d, at + 12, e.sectors);
+}

@@ -70,6 +70,30 @@ checked-fail (c ∷ cs) deny grant = go (c .holds) (checked-fail cs deny grant)
     go true ih = ih
     go false ih = refl
 
+-- an answer that is a refusal, and one that is a value
+said-fail : {A : Type 0} (o : Option ℕ) (a : A) (k : ℕ) → onFail o refuses (gives a) ≡ refuses k → o ≡ some k
+said-fail none a k h = let w : _≡_ {A = ℕ} 0 1 = cc in absurd (omega arith)
+said-fail (some j) a k h =
+    let e : j ≡ k = cc in
+    ap some e
+
+said-value : {A : Type 0} (o : Option ℕ) (a b : A) → onFail o refuses (gives a) ≡ gives b → (o ≡ none) × (a ≡ b)
+said-value none a b h = (refl, cc)
+said-value (some j) a b h = let w : _≡_ {A = ℕ} 0 1 = cc in absurd (omega arith)
+
+pub answer-refuses : {A : Type 0} (cs : List Check) (a : A) (k : ℕ) → answer cs a ≡ refuses k → first-fail cs ≡ some k
+answer-refuses cs a k h = said-fail (first-fail cs) a k (sym (checked-fail cs refuses (gives a)) ∙ h)
+
+pub answer-gives : {A : Type 0} (cs : List Check) (a b : A) → answer cs a ≡ gives b → (first-fail cs ≡ none) × (a ≡ b)
+answer-gives cs a b h = said-value (first-fail cs) a b (sym (checked-fail cs refuses (gives a)) ∙ h)
+
+-- what the checks lead to, once it is known whether one fails
+pub checked-some : {A : Type 0} (cs : List Check) (deny : ℕ → A) (grant : A) (k : ℕ) → first-fail cs ≡ some k → checked cs deny grant ≡ deny k
+checked-some cs deny grant k h = checked-fail cs deny grant ∙ rw h
+
+pub checked-none : {A : Type 0} (cs : List Check) (deny : ℕ → A) (grant : A) → first-fail cs ≡ none → checked cs deny grant ≡ grant
+checked-none cs deny grant h = checked-fail cs deny grant ∙ rw h
+
 -- checks in two lists, one after the other
 pub checked-append : {A : Type 0} (cs ds : List Check) (deny : ℕ → A) (grant : A) → checked (cs ++ ds) deny grant ≡ checked cs deny (checked ds deny grant)
 checked-append [] ds deny grant = refl

@@ -6,7 +6,7 @@ use native.Mathlib.Nat.{add-zero, add-suc, add-assoc}
 use native.Mathlib.Numerals.{add-one}
 use native.Mathlib.Omega.{arith}
 use lib.ListN.{length, take, drop, getD, set, length-append, length-drop, length-set}
-use lib.Seq.{sets, sets-eq, length-sets, length-take-le, take-at, drop-at, drop-append-add, drop-drop, paste, paste-suc, take-length, take-suc, take-suc-set, getD-drop, take-all}
+use lib.Seq.{sets, sets-eq, length-sets, length-take-le, take-at, drop-at, drop-append-add, drop-drop, paste, paste-suc, take-length, take-suc, take-suc-set, take-all}
 use Rattle.base.specs.Bytes.{plus}
 use Rattle.base.specs.Put.{put, over, laid}
 use Rattle.base.proofs.Bytes.{plus-eq}
@@ -61,11 +61,9 @@ put-all d₀ d src at i e h k =
     e ∙ rw (z, take-length)
 
 -- a turn of a copy out of a list, and its end
-pub copy-turn : (s code : List ℕ) (at i : ℕ) → i < length code → at + i < length s → take i code ≡ take i (drop at s)
-    → take (i + 1) (set code i (getD s (at + i) 0)) ≡ take (i + 1) (drop at s)
-copy-turn s code at i p q e =
-    let h : i < length (drop at s) = simp length-drop (omega arith) in
-    rw (add-one, take-suc-set, take-suc (drop at s) i 0 h, e, getD-drop)
+pub copy-turn : (s code : List ℕ) (i : ℕ) → i < length code → i < length s → take i code ≡ take i s
+    → take (i + 1) (set code i (getD s i 0)) ≡ take (i + 1) s
+copy-turn s code i p q e = rw (add-one, take-suc-set, take-suc s i 0 q, e)
 
 pub copy-all : (code x : List ℕ) (n i : ℕ) → length code ≡ n → i ≤ n → n ≤ i → take i code ≡ take i x → code ≡ take n x
 copy-all code x n i l p q e =

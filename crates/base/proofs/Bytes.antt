@@ -36,6 +36,10 @@ byte-at [] b i = omega arith
 byte-at (x ∷ xs) b zero = b .0
 byte-at (x ∷ xs) b (suc i) = byte-at xs (b .1) i
 
+pub bytes-all : (r : List ℕ) → ((i : ℕ) → getD r i 0 < 256) → Bytes r
+bytes-all [] h = tt
+bytes-all (x ∷ xs) h = (h 0, bytes-all xs (λ i. h (suc i)))
+
 bytes-reverseAux : (xs ys : List ℕ) → Bytes xs → Bytes ys → Bytes (reverseAux xs ys)
 bytes-reverseAux [] ys p q = q
 bytes-reverseAux (x ∷ xs) ys p q = bytes-reverseAux xs (x ∷ ys) (p .1) (p .0, q)

@@ -1,0 +1,45 @@
+-- What each answer of the crate says in document 01's numbers. Assumes nothing.
+use Prim.Native.Nat.{ℕ, _*_}
+use mathlib.Core.List.{List, [], _∷_}
+use mathlib.Core.Option.{Option, none, some}
+use Rattle.base.specs.Said.{Said, gives, refuses}
+use Rattle.base.specs.Checks.{Check, _!_, answer, first-fail}
+use Rattle.extract.specs.declared.Extract.{Extract}
+use Rattle.extract.specs.declared.Header.{Header}
+use Rattle.extract.specs.declared.Header.the-variants as header
+use Rattle.extract.specs.declared.Outcome.{Outcome}
+use Rattle.extract.specs.declared.Outcome.the-variants as outcome
+use Rattle.extract.specs.declared.Place.{Place}
+use Rattle.extract.specs.declared.Place.the-variants as place
+use Rattle.extract.specs.Extract.{sectorSize, diskSectors, count, sizeOk, extractChecks, lookChecks}
+
+-- `Good e` gives e; `Refused r` is the refusal of its number
+abbrev pub headerSaid : Header → Said Extract
+headerSaid (header.Good e) = gives e
+headerSaid (header.Refused r) = refuses (r .number)
+
+-- `Done` is 01's 0, no refusal; `Refused r` is the refusal of its number
+abbrev pub outcomeSaid : Outcome → Option ℕ
+outcomeSaid outcome.Done = none
+outcomeSaid (outcome.Refused r) = some (r .number)
+
+-- `At p` gives p; `Refused r` is the refusal of its number
+abbrev pub placeSaid : Place → Said ℕ
+placeSaid (place.At p) = gives p
+placeSaid (place.Refused r) = refuses (r .number)
+
+-- the header's sector size, D and record count
+abbrev pub headerOf : List ℕ → Extract
+headerOf x = record { «sector_size» = sectorSize x; «disk_size» = diskSectors x; count = count x }
+
+-- what checking an extract says
+unfoldable pub checkSays : List ℕ → Said Extract
+checkSays x = answer (extractChecks x) (headerOf x)
+
+-- what looking up says beside the record
+unfoldable pub lookSays : List ℕ → ℕ → Option ℕ
+lookSays x a = first-fail (lookChecks x a)
+
+-- the place of an LBA on the disk in bytes: LBA times sector size
+unfoldable pub placeSays : ℕ → ℕ → Said ℕ
+placeSays size a = answer ((1 ! sizeOk size) ∷ []) (a * size)

@@ -1,0 +1,158 @@
+// The extract: a header of 24 bytes, n LBAs, n records of 512 bytes; and the disk that it stands for.
+ghost use mathlib.Core.Path.{_≡_};
+ghost use mathlib.Core.Bool.{true};
+ghost use Prim.Native.Nat.{ℕ, _+_, _*_, _^_, _≤_, _<_};
+ghost use lib.ListN.{length};
+ghost use Rattle.extract.specs.Extract.{Good, word, count, sizeOk, lbasFrom, headerChecks, lbaChecks, recordOf, lookedUp};
+ghost use Rattle.base.specs.Bytes.{Bytes};
+ghost use Rattle.base.specs.Checks.{first-fail};
+ghost use Rattle.extract.specs.Answers.{headerSaid, checkSays, outcomeSaid, lookSays, placeSaid, placeSays};
+
+// Why a call is refused: document 01's number.
+pub struct Refusal {
+    pub number: u8,
+}
+
+// What the header of a checked extract says.
+pub struct Extract {
+    pub sector_size: u32,
+    pub disk_size: u32,
+    pub count: usize,
+}
+
+// What checking an extract finds.
+pub enum Header {
+    Good(Extract),
+    Refused(Refusal),
+}
+
+// What a call without a value says.
+pub enum Outcome {
+    Done,
+    Refused(Refusal),
+}
+
+// A place on the disk in bytes.
+pub enum Place {
+    At(u64),
+    Refused(Refusal),
+}
+
+// The word at a byte offset of the extract.
+fn word_at(x: &[u8], at: usize) -> u32
+    requires { ⌜ at + 4 ≤ length (now x) ⌝ }
+    ensures { λ r. ⌜ r ≡ word (now (x .entry)) at ⌝ }
+{
+    base::get32(x, at)
+}
+
+// Is it a power of two from 512 to 4,096?
+fn size_ok(size: u32) -> bool
+    ensures { λ r. ⌜ r ≡ sizeOk size ⌝ }
+{
+    if size < 512 {
+        return false;
+    }
+    if 4096 < size {
+        return false;
+    }
+    u32::count_ones(size) == 1
+}
+
+// By how many bits an LBA is shifted: the sector size is two to that power.
+fn shift_of(size: u32) -> u32
+    requires { ⌜ sizeOk size ≡ true ⌝ }
+    ensures { λ r. ⌜ (2 ^ r ≡ size) × (r < 13) ⌝ }
+{
+    u32::trailing_zeros(size)
+}
+
+// Where an LBA starts on the disk, in bytes.
+pub fn byte_place(sector_size: u32, lba: u32) -> Place
+    ensures { λ r. ⌜ placeSaid r ≡ placeSays «sector_size» lba ⌝ }
+{
+    if size_ok(sector_size) {
+        Place::At((lba as u64) << shift_of(sector_size))
+    } else {
+        Place::Refused(Refusal { number: 1 })
+    }
+}
+
+// The rules of the header's words, in their order, for a lent length.
+fn header_rules(
+    long: usize,
+    size: u32,
+    n: usize,
+    list: usize,
+    records: usize,
+    total: usize,
+) -> Outcome
+    ensures { λ r. ⌜ outcomeSaid r ≡ first-fail (headerChecks long size n list records total) ⌝ }
+{
+    if !size_ok(size) {
+        return Outcome::Refused(Refusal { number: 1 });
+    }
+    if 64 < n {
+        return Outcome::Refused(Refusal { number: 1 });
+    }
+    if list != 24 {
+        return Outcome::Refused(Refusal { number: 1 });
+    }
+    if records != 24 + n * 4 {
+        return Outcome::Refused(Refusal { number: 1 });
+    }
+    if total != 24 + n * 516 {
+        return Outcome::Refused(Refusal { number: 1 });
+    }
+    if total != long {
+        return Outcome::Refused(Refusal { number: 1 });
+    }
+    Outcome::Done
+}
+
+// The rules of the n LBAs: they ascend strictly, and are below the end of the disk. Each is read once.
+fn lba_rules(x: &[u8], n: usize, disk: u32) -> Outcome
+    requires { ⌜ (n ≤ 64) × (24 + n * 4 ≤ length (now x)) ⌝ }
+    ensures { λ r. ⌜ outcomeSaid r ≡ first-fail (lbaChecks disk (lbasFrom (now (x .entry)) 0 n)) ⌝ }
+{
+    let mut next: u64 = 0;
+    for i in 0..n {
+        let lba = word_at(x, 24 + i * 4) as u64;
+        if lba < next {
+            return Outcome::Refused(Refusal { number: 1 });
+        }
+        next = lba + 1;
+    }
+    if (disk as u64) < next {
+        return Outcome::Refused(Refusal { number: 1 });
+    }
+    Outcome::Done
+}
+
+// The rules of an extract, in their order. Each byte of the header and of the LBA list is read once.
+pub fn check(x: &[u8]) -> Header
+    ensures { λ r. ⌜ headerSaid r ≡ checkSays (now (x .entry)) ⌝ }
+    ensures bytes { λ r. ⌜ Bytes (now (x .entry)) ⌝ }
+{
+    let long = x.len();
+    if long < 24 {
+        return Header::Refused(Refusal { number: 1 });
+    }
+    let size = word_at(x, 0);
+    let disk = word_at(x, 4);
+    let n = word_at(x, 8) as usize;
+    let list = word_at(x, 12) as usize;
+    let records = word_at(x, 16) as usize;
+    let total = word_at(x, 20) as usize;
+    match header_rules(long, size, n, list, records, total) {
+        Outcome::Refused(r) => Header::Refused(r),
+        Outcome::Done => match lba_rules(x, n, disk) {
+            Outcome::Refused(r) => Header::Refused(r),
+            Outcome::Done => Header::Good(Extract {
+                sector_size: size,
+                disk_size: disk,
+                count: n,
+            }),
+        },
+    }
+}

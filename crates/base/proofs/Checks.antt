@@ -37,6 +37,19 @@ pub all-hold : (cs : List Check) → AllHold cs → first-fail cs ≡ none
 all-hold [] h = refl
 all-hold (c ∷ cs) h = rw (h .0) (all-hold cs (h .1))
 
+-- checks in two lists hold, one after the other
+pub hold-left : (cs ds : List Check) → AllHold (cs ++ ds) → AllHold cs
+hold-left [] ds h = tt
+hold-left (c ∷ cs) ds h = (h .0, hold-left cs ds (h .1))
+
+pub hold-right : (cs ds : List Check) → AllHold (cs ++ ds) → AllHold ds
+hold-right [] ds h = h
+hold-right (c ∷ cs) ds h = hold-right cs ds (h .1)
+
+pub hold-both : (cs ds : List Check) → AllHold cs → AllHold ds → AllHold (cs ++ ds)
+hold-both [] ds h k = k
+hold-both (c ∷ cs) ds h k = (h .0, hold-both cs ds (h .1) k)
+
 -- a refusal's number is that of the first check that fails, and every earlier one holds
 pub fails-first : (cs : List Check) (k : ℕ) → first-fail cs ≡ some k → FirstFail cs k
 fails-first [] k h = let w : _≡_ {A = ℕ} 0 1 = cc in absurd (omega arith)
@@ -98,6 +111,17 @@ checked-none cs deny grant h = checked-fail cs deny grant ∙ rw h
 pub checked-append : {A : Type 0} (cs ds : List Check) (deny : ℕ → A) (grant : A) → checked (cs ++ ds) deny grant ≡ checked cs deny (checked ds deny grant)
 checked-append [] ds deny grant = refl
 checked-append (c ∷ cs) ds deny grant = rw (checked-append cs ds deny grant)
+
+-- the first list fails, or leaves it to the second
+pub append-fails : {A : Type 0} (cs ds : List Check) (k : ℕ) (deny : ℕ → A) (grant : A) → first-fail cs ≡ some k → checked (cs ++ ds) deny grant ≡ deny k
+append-fails cs ds k deny grant e =
+    let r = checked ds deny grant in
+    checked-append cs ds deny grant ∙ checked-fail cs deny r ∙ ap (λ o. onFail o deny r) e
+
+pub append-holds : {A : Type 0} (cs ds : List Check) (deny : ℕ → A) (grant : A) → AllHold cs → checked (cs ++ ds) deny grant ≡ checked ds deny grant
+append-holds cs ds deny grant h =
+    let r = checked ds deny grant in
+    checked-append cs ds deny grant ∙ checked-fail cs deny r ∙ ap (λ o. onFail o deny r) (all-hold cs h)
 
 -- a number that is one of a list of keys, and one that is none of them
 later : (b : Bool) (c : Bool) → c ≡ true → pick b true c ≡ true

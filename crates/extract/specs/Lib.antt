@@ -1,3 +1,4 @@
 pub mod Disk
 pub mod Extract
 pub mod Answers
+pub mod Spot

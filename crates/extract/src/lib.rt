@@ -6,6 +6,7 @@ ghost use lib.ListN.{length};
 ghost use Rattle.extract.specs.Extract.{Good, word, count, sizeOk, lbasFrom, headerChecks, lbaChecks, recordOf, lookedUp};
 ghost use Rattle.base.specs.Bytes.{Bytes};
 ghost use Rattle.base.specs.Checks.{first-fail};
+ghost use Rattle.extract.specs.Spot.{SpotOf};
 ghost use Rattle.extract.specs.Answers.{headerSaid, checkSays, outcomeSaid, lookSays, placeSaid, placeSays};
 
 // Why a call is refused: document 01's number.
@@ -36,6 +37,12 @@ pub enum Outcome {
 pub enum Place {
     At(u64),
     Refused(Refusal),
+}
+
+// Where an LBA stands in the list: at a number, or before the one of a number.
+pub enum Spot {
+    Found(usize),
+    Absent(usize),
 }
 
 // The word at a byte offset of the extract.
@@ -154,5 +161,74 @@ pub fn check(x: &[u8]) -> Header
                 count: n,
             }),
         },
+    }
+}
+
+// Where an LBA stands among those of a checked extract. Each turn halves the at most 64 in question: at most 7 are looked at.
+pub fn seek(x: &[u8], n: usize, lba: u32) -> Spot
+    requires { ⌜ (n ≡ count (now x)) × Good (now x) ⌝ }
+    ensures { λ r. ⌜ SpotOf (now (x .entry)) n lba r ⌝ }
+{
+    let mut lo: usize = 0;
+    let mut hi = n;
+    while lo < hi {
+        let mid = lo + (hi - lo) / 2;
+        let a = word_at(x, 24 + mid * 4);
+        if a == lba {
+            return Spot::Found(mid);
+        }
+        if a < lba {
+            lo = mid + 1;
+        } else {
+            hi = mid;
+        }
+    }
+    Spot::Absent(lo)
+}
+
+// The record at an LBA of a checked extract, as a part of it; empty if there is none.
+pub fn record_of<'a>(x: &'a [u8], n: usize, lba: u32) -> &'a [u8]
+    requires { ⌜ (n ≡ count (now x)) × Good (now x) ⌝ }
+    ensures { λ r. ⌜ now r ≡ recordOf (now (x .entry)) lba ⌝ }
+{
+    match seek(x, n, lba) {
+        Spot::Absent(_) => &x[0..0],
+        Spot::Found(i) => {
+            let at = 24 + n * 4 + i * 512;
+            &x[at..at + 512]
+        }
+    }
+}
+
+// The record at an LBA, as a part of the extract; empty if it is absent or refused.
+pub fn look_up<'a>(x: &'a [u8], lba: u32) -> &'a [u8]
+    ensures { λ r. ⌜ now r ≡ lookedUp (now (x .entry)) lba ⌝ }
+{
+    match check(x) {
+        Header::Refused(_) => &x[0..0],
+        Header::Good(e) => {
+            let n = e.count;
+            if lba < e.disk_size {
+                record_of(x, n, lba)
+            } else {
+                &x[0..0]
+            }
+        }
+    }
+}
+
+// What looking up says beside the record: nothing (0), the extract is bad (1), or the LBA is at or past the end (2).
+pub fn look_up_answer(x: &[u8], lba: u32) -> Outcome
+    ensures { λ r. ⌜ outcomeSaid r ≡ lookSays (now (x .entry)) lba ⌝ }
+{
+    match check(x) {
+        Header::Refused(r) => Outcome::Refused(r),
+        Header::Good(e) => {
+            if lba < e.disk_size {
+                Outcome::Done
+            } else {
+                Outcome::Refused(Refusal { number: 2 })
+            }
+        }
     }
 }

@@ -8,6 +8,21 @@ pub data Said (A : Type 0) : Type 0 where
   gives : A → Said A
   refuses : ℕ → Said A
 
+-- go on with the value; a refusal stays
+abbrev pub andThen : {A B : Type 0} → Said A → (A → Said B) → Said B
+andThen (gives a) f = f a
+andThen (refuses k) f = refuses k
+
+-- the number of the refusal, if it is one
+abbrev pub failure : {A : Type 0} → Said A → Option ℕ
+failure (gives a) = none
+failure (refuses k) = some k
+
+-- the value, or what stands in its place
+abbrev pub valueOr : {A : Type 0} → A → Said A → A
+valueOr other (gives a) = a
+valueOr other (refuses k) = other
+
 -- `Done` is no refusal; `Refused k` is the refusal number k
 abbrev pub refusal : Answer → Option ℕ
 refusal Done = none

@@ -1,0 +1,47 @@
+-- Alignment: with no used start 2,048, else the largest divisor of all used starts from 1 to min(16,384, largest start); none: 7. Assumes nothing.
+use Prim.Native.Nat.{ℕ, zero, suc, _%_, _≤_, _<_, min, max}
+use mathlib.Core.List.{List, [], _∷_}
+use mathlib.Core.Bool.{Bool, true, false, _&&_}
+use mathlib.Core.Option.{Option, none, some}
+use mathlib.Core.Path.{_≡_}
+use lib.Dec.{eqb}
+use Rattle.base.specs.Pick.{pick}
+use Rattle.base.specs.Said.{Said, gives, refuses}
+use Rattle.entry.specs.declared.MBRPartitionEntry.{MBRPartitionEntry}
+use Rattle.entry.specs.Entry.{used}
+use Rattle.table.specs.Table.{defaultAlign, greatestAlign}
+
+-- the starts of the used entries
+unfoldable pub usedStarts : List MBRPartitionEntry → List ℕ
+usedStarts [] = []
+usedStarts (e ∷ es) = pick (used (e .sys)) (e .«starting_lba» ∷ usedStarts es) (usedStarts es)
+
+-- does k divide every number
+unfoldable pub dividesAll : ℕ → List ℕ → Bool
+dividesAll k [] = true
+dividesAll k (s ∷ ss) = eqb (s % k) 0 && dividesAll k ss
+
+unfoldable pub largest : List ℕ → ℕ
+largest [] = 0
+largest (s ∷ ss) = max s (largest ss)
+
+-- the largest number from 1 to n that divides them all
+unfoldable pub divisorTo : ℕ → List ℕ → Option ℕ
+divisorTo zero ss = none
+divisorTo (suc n) ss = pick (dividesAll (suc n) ss) (some (suc n)) (divisorTo n ss)
+
+abbrev pub orSeven : Option ℕ → Said ℕ
+orSeven none = refuses 7
+orSeven (some k) = gives k
+
+-- a single used start equal to 1 gives 1 by the same rule; all starts zero have no number to try
+unfoldable pub alignment : List ℕ → Said ℕ
+alignment [] = gives defaultAlign
+alignment (s ∷ ss) = orSeven (divisorTo (min greatestAlign (largest (s ∷ ss))) (s ∷ ss))
+
+-- the rule in other words: k divides them all, and no larger number up to n does
+pub record Largest (k n : ℕ) (ss : List ℕ) : Type 0 where
+  pub above : 1 ≤ k
+  pub within : k ≤ n
+  pub divides : dividesAll k ss ≡ true
+  pub least : (j : ℕ) → k < j → j ≤ n → dividesAll j ss ≡ false

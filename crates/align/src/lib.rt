@@ -1,0 +1,1 @@
+// The alignment that a table has.

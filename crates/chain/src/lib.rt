@@ -1,0 +1,1 @@
+// The chain of EBRs, read from a checked extract.

@@ -1,0 +1,93 @@
+-- Reading a table from the disk that an extract stands for: 1, 2, 3, 4, chain, 7. Assumes nothing.
+use Prim.Native.Nat.{ℕ, _-_}
+use mathlib.Core.List.{List, [], _∷_, _++_}
+use mathlib.Core.Option.{Option}
+use lib.Dec.{ltb}
+use lib.ListN.{length, replicate}
+use Rattle.base.specs.Said.{Said, gives, refuses, andThen, failure, valueOr}
+use Rattle.base.specs.Checks.{_!_, checked, answer}
+use Rattle.chs.specs.Chs.{noChs}
+use Rattle.entry.specs.Entry.{noEntry}
+use Rattle.ebr.specs.Ebr.{noKept}
+use Rattle.mbr.specs.declared.MBRHeader.{MBRHeader}
+use Rattle.mbr.specs.Mbr.{mbrOf, headerChecks, primaries, extendedOf, noHeader}
+use Rattle.extract.specs.Disk.{Disk}
+use Rattle.extract.specs.Extract.{diskOf}
+use Rattle.extract.specs.Answers.{checkSays}
+use Rattle.table.specs.declared.MaybeSectors.the-variants.{Absent}
+use Rattle.table.specs.declared.MaybeChs.the-variants.{Absent as NoChs}
+use Rattle.table.specs.declared.LogicalPartition.{LogicalPartition}
+use Rattle.table.specs.declared.MBR.{MBR}
+use Rattle.table.specs.Table.{most, defaultAlign, parts}
+use Rattle.chain.specs.Chain.{view, logicalsOf}
+use Rattle.align.specs.Align.{usedStarts, alignment}
+
+-- a table as a disk says it
+pub record Table : Type 0 where
+  pub width : ℕ
+  pub size : ℕ
+  pub header : MBRHeader
+  pub logicals : List LogicalPartition
+  pub align : ℕ
+
+-- the MBR at sector 0: past the disk 2, signature 3, flags 4
+unfoldable pub headerOn : Disk → Said MBRHeader
+headerOn d = answer ((2 ! ltb 0 (d .size)) ∷ headerChecks (mbrOf (d .sector 0))) (mbrOf (d .sector 0))
+
+-- the header with its chain
+unfoldable pub withChain : Disk → MBRHeader → Said Table
+withChain d h =
+    andThen (logicalsOf (view d) (extendedOf (primaries h)))
+    (λ ls. andThen (alignment (usedStarts (primaries h ++ parts ls)))
+    (λ a. gives (record { width = d .width; size = d .size; header = h; logicals = ls; align = a })))
+
+-- what a disk reads as
+unfoldable pub read : Disk → Said Table
+read d = andThen (headerOn d) (withChain d)
+
+-- what an extract reads as
+unfoldable pub readSays : List ℕ → Said Table
+readSays x = andThen (checkSays x) (λ e. read (diskOf x))
+
+-- its header alone
+unfoldable pub headerSays : List ℕ → Said MBRHeader
+headerSays x = andThen (checkSays x) (λ e. headerOn (diskOf x))
+
+-- an unused slot of the array
+abbrev pub emptySlot : LogicalPartition
+emptySlot =
+    record {
+      partition = noEntry;
+      «absolute_ebr_lba» = record { 0 = 0 };
+      «ebr_sectors» = Absent;
+      «ebr_first_chs» = noChs;
+      «ebr_last_chs» = NoChs;
+      kept = noKept;
+    }
+
+-- logical partitions in an array with unused slots behind them
+unfoldable pub slots : List LogicalPartition → List LogicalPartition
+slots ls = ls ++ replicate (most - length ls) emptySlot
+
+-- the table by value: no geometry
+unfoldable pub tableOf : Table → MBR
+tableOf t =
+    record {
+      «sector_size» = t .width;
+      header = t .header;
+      «logical_partitions» = slots (t .logicals);
+      count = length (t .logicals);
+      align = t .align;
+      cylinders = 0;
+      heads = 0;
+      sectors = 0;
+      «disk_size» = t .size;
+    }
+
+-- what stands in the place of a table that is refused
+unfoldable pub noTable : MBR
+noTable = tableOf (record { width = 0; size = 0; header = noHeader; logicals = []; align = defaultAlign })
+
+abbrev pub tableFor : Said Table → MBR
+tableFor (gives t) = tableOf t
+tableFor (refuses k) = noTable

@@ -1,0 +1,1 @@
+// A table, read from an extract.

@@ -9,6 +9,10 @@ use Rattle.base.specs.Pick.{pick}
 use Rattle.base.specs.Said.{Said, gives, refuses}
 use Rattle.entry.specs.declared.MBRPartitionEntry.{MBRPartitionEntry}
 use Rattle.entry.specs.Entry.{used}
+use Rattle.align.specs.declared.Aligned.{Aligned}
+use Rattle.align.specs.declared.Aligned.the-variants.{Align, Refused}
+use Rattle.align.specs.declared.Starts.{Starts}
+use lib.ListN.{take}
 use Rattle.table.specs.Table.{defaultAlign, greatestAlign}
 
 -- the starts of the used entries
@@ -38,6 +42,15 @@ orSeven (some k) = gives k
 unfoldable pub alignment : List ℕ → Said ℕ
 alignment [] = gives defaultAlign
 alignment (s ∷ ss) = orSeven (divisorTo (min greatestAlign (largest (s ∷ ss))) (s ∷ ss))
+
+-- what the answer says
+abbrev pub alignedSaid : Aligned → Said ℕ
+alignedSaid (Align k) = gives k
+alignedSaid (Refused k) = refuses k
+
+-- the starts collected so far
+abbrev pub startsIn : Starts → List ℕ
+startsIn s = take (s .count) (s .at)
 
 -- the rule in other words: k divides them all, and no larger number up to n does
 pub record Largest (k n : ℕ) (ss : List ℕ) : Type 0 where

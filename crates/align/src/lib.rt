@@ -1,1 +1,109 @@
-// The alignment that a table has.
+// The alignment that a table has: found from the starts of its used entries.
+use entry::MBRPartitionEntry;
+use table::MBR;
+ghost use mathlib.Core.Path.{_≡_};
+ghost use mathlib.Core.List.{_++_, [], _∷_};
+ghost use Prim.Native.Nat.{_+_, _≤_, _<_, min, max};
+ghost use lib.ListN.{length, take};
+ghost use Rattle.align.specs.Align.{usedStarts, dividesAll, largest, alignment, alignedSaid, startsIn};
+
+// An alignment, or a refusal's number.
+pub enum Aligned {
+    Align(u32),
+    Refused(u8),
+}
+
+// The starts of used entries: at most four primaries and 24 logicals.
+pub struct Starts {
+    pub at: [u32; 28],
+    pub count: usize,
+}
+
+impl Starts {
+    pub fn new() -> Starts
+        ensures { λ r. ⌜ (startsIn r ≡ []) × (r .count ≡ 0) ⌝ }
+    {
+        let none = [0u32; 28];
+        Starts { at: none, count: 0 }
+    }
+
+    // With the entry's start, if it is used.
+    pub fn with(self, e: MBRPartitionEntry) -> Starts
+        requires { ⌜ self .count < 28 ⌝ }
+        ensures { λ r. ⌜ (startsIn r ≡ startsIn self ++ usedStarts (e ∷ [])) × (r .count ≤ self .count + 1) ⌝ }
+    {
+        if e.sys == 0 {
+            return self;
+        }
+        let n = self.count;
+        let mut more = self;
+        more.at[n] = e.starting_lba;
+        more.count = n + 1;
+        more
+    }
+
+    // The alignment of these starts.
+    pub fn alignment(self) -> Aligned
+        requires { ⌜ self .count ≤ 28 ⌝ }
+        ensures { λ r. ⌜ alignedSaid r ≡ alignment (startsIn self) ⌝ }
+    {
+        let n = self.count;
+        let at = self.at;
+        let all = &at[..];
+        find_alignment(&all[..n])
+    }
+}
+
+// Does k divide every number?
+fn divides_all(starts: &[u32], k: u32) -> bool
+    requires { ⌜ 0 < k ⌝ }
+    ensures { λ r. ⌜ r ≡ dividesAll k (now (starts .entry)) ⌝ }
+{
+    for i in 0..starts.len() {
+        if starts[i] % k != 0 {
+            return false;
+        }
+    }
+    true
+}
+
+// The largest number; 0 if there is none.
+fn largest_of(starts: &[u32]) -> u32
+    ensures { λ r. ⌜ r ≡ largest (now (starts .entry)) ⌝ }
+{
+    let mut most = 0;
+    for i in 0..starts.len() {
+        most = larger(most, starts[i]);
+    }
+    most
+}
+
+fn larger(a: u32, b: u32) -> u32
+    ensures { λ r. ⌜ r ≡ max a b ⌝ }
+{
+    if a < b { b } else { a }
+}
+
+fn smaller(a: u32, b: u32) -> u32
+    ensures { λ r. ⌜ r ≡ min a b ⌝ }
+{
+    if a < b { a } else { b }
+}
+
+// The alignment of used starts: 7 where all are zero.
+pub fn find_alignment(starts: &[u32]) -> Aligned
+    ensures { λ r. ⌜ alignedSaid r ≡ alignment (now (starts .entry)) ⌝ }
+{
+    if starts.len() == 0 {
+        return Aligned::Align(MBR::DEFAULT_ALIGN);
+    }
+    let top = smaller(MBR::MAX_ALIGN, largest_of(starts));
+    let mut k = top;
+    while 0 < k {
+        if divides_all(starts, k) {
+            return Aligned::Align(k);
+        }
+        k -= 1;
+    }
+    Aligned::Refused(7)
+}

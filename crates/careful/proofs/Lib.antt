@@ -4,3 +4,6 @@ pub mod Written
 pub mod Aligned
 pub mod Shown
 pub mod Split
+pub mod Push
+pub mod Remove
+pub mod New

@@ -7,3 +7,5 @@ pub mod Split
 pub mod Push
 pub mod Remove
 pub mod New
+pub mod Accepted
+pub mod Demand3

@@ -70,11 +70,30 @@ pub record NewOk (later : Bool) (q : Request) (l : LogicalPartition) : Type 0 wh
 unaddressed : (later : Bool) (q : Request) → NewOk later q (fresh later q)
 unfolding fresh
 unaddressed true q = record {
-  place = refl; start = refl; sectors = refl; boot = refl; sys = refl; kept = refl; span = refl; first = omega arith; last = omega arith; link = omega arith;
+  place = refl;
+  start = refl;
+  sectors = refl;
+  boot = refl;
+  sys = refl;
+  kept = refl;
+  span = refl;
+  first = omega arith;
+  last = omega arith;
+  link = omega arith;
   tail = (record { cylinder = 0; head = 0; sector = 0 }, refl, omega arith);
 }
 unaddressed false q = record {
-  place = refl; start = refl; sectors = refl; boot = refl; sys = refl; kept = refl; span = refl; first = omega arith; last = omega arith; link = omega arith; tail = refl;
+  place = refl;
+  start = refl;
+  sectors = refl;
+  boot = refl;
+  sys = refl;
+  kept = refl;
+  span = refl;
+  first = omega arith;
+  last = omega arith;
+  link = omega arith;
+  tail = refl;
 }
 
 with-address : (later : Bool) (q : Request) → q .geometry .heads < 256 → complete (q .geometry) ≡ true → AllHold (updateChecks (q .geometry) (fresh later q))
@@ -84,7 +103,13 @@ with-address true q heads c h =
     let g : Geometry = q .geometry in
     let h₈ = h .1 .1 .1 .1 .1 .1 .1 .1 in
     record {
-      place = refl; start = refl; sectors = refl; boot = refl; sys = refl; kept = refl; span = refl;
+      place = refl;
+      start = refl;
+      sectors = refl;
+      boot = refl;
+      sys = refl;
+      kept = refl;
+      span = refl;
       first = address-ok g (placeOf q + q .align) heads c (h .0, (h .1 .0, (h .1 .1 .0, tt)));
       last = address-ok g (placeOf q + q .align + (sizeOf q - q .align) - 1) heads c
           (h .1 .1 .1 .1 .1 .0, (h .1 .1 .1 .1 .1 .1 .0, (h .1 .1 .1 .1 .1 .1 .1 .0, tt)));
@@ -95,7 +120,13 @@ with-address false q heads c h =
     let g : Geometry = q .geometry in
     let h₈ = h .1 .1 .1 .1 .1 .1 .1 .1 in
     record {
-      place = refl; start = refl; sectors = refl; boot = refl; sys = refl; kept = refl; span = refl;
+      place = refl;
+      start = refl;
+      sectors = refl;
+      boot = refl;
+      sys = refl;
+      kept = refl;
+      span = refl;
       first = address-ok g (placeOf q + q .align) heads c (h .0, (h .1 .0, (h .1 .1 .0, tt)));
       last = address-ok g (placeOf q + q .align + (sizeOf q - q .align) - 1) heads c
           (h .1 .1 .1 .1 .1 .0, (h .1 .1 .1 .1 .1 .1 .0, (h .1 .1 .1 .1 .1 .1 .1 .0, tt)));

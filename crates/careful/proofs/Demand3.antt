@@ -15,9 +15,10 @@ use Rattle.extract.proofs.Disk.{size-below, sector-record}
 use Rattle.read.specs.Read.{Table, read}
 use Rattle.push.specs.Push.{Request}
 use Rattle.sound.specs.Sound.{Contents}
-use Rattle.careful.specs.Careful.{contents, Change, pushRefusals, pushChange, removeRefusals, removeChange, carefulPush, carefulRemove}
+use Rattle.careful.specs.Careful.{contents, Change, pushRefusals, pushChange, removeRefusals, removeChange, cratePush, crateRemove, inFirstPlace, carefulPush, carefulRemove}
 use Rattle.careful.specs.Demand3.{Safe, Careful, Whole, Asked, Demand3}
 use Rattle.careful.proofs.Shown.{read→shows, read→contents}
+use Rattle.careful.proofs.Crate.{push-same, remove-same}
 use Rattle.careful.proofs.Accepted.{push-accepted, remove-accepted}
 
 -- the first check that fails is answered
@@ -28,11 +29,13 @@ skip-holding (b ∷ bs) behind c h f = rw (h .0) (skip-holding bs behind c (h .1
 first-fails : (cs : List Check) (k : ℕ) → FirstFail cs k → first-fail cs ≡ some k
 first-fails cs k f = ap first-fail (f .parts) ∙ skip-holding (f .before) (f .behind) (f .check) (f .holding) (f .fails) ∙ ap some (f .number)
 
-careful-of : (d : Disk) (t : Contents) (cs : List Check) (c : Change) (says : Said Change) → says ≡ answer cs c → (AllHold cs → Safe d t c) → Careful d t cs c says
-careful-of d t cs c says e s = record {
+careful-of : (d : Disk) (t : Contents) (cs : List Check) (c : Change) (crate : Contents) (says : Said Change) → says ≡ answer cs c → (AllHold cs → Safe d t c)
+    → (AllHold cs → c .result ≡ inFirstPlace crate) → Careful d t cs c crate says
+careful-of d t cs c crate says e s m = record {
   refused = λ k f. e ∙ checked-some cs refuses (gives c) k (first-fails cs k f);
   accepted = λ h. e ∙ checked-none cs refuses (gives c) (all-hold cs h);
   safe = s;
+  same = m;
 }
 
 pub demand3 : (d : Disk) → Whole d → Demand3 d
@@ -41,11 +44,13 @@ demand3 d w = record {
   unread-push = λ k room q e. rw e;
   unread-remove = λ k room n e. rw e;
   push = λ t e room q asked.
-      careful-of d (contents t) (pushRefusals room q (contents t)) (pushChange q (contents t)) (carefulPush d room q) (rw e)
-      (push-accepted d (contents t) w (read→contents d t e) (read→shows d t e) room q asked);
+      careful-of d (contents t) (pushRefusals room q (contents t)) (pushChange q (contents t)) (cratePush q t) (carefulPush d room q) (rw e)
+      (push-accepted d (contents t) w (read→contents d t e) (read→shows d t e) room q asked)
+      (push-same d t (read→shows d t e) room q);
   remove = λ t e room n.
-      careful-of d (contents t) (removeRefusals room n (contents t)) (removeChange n (contents t)) (carefulRemove d room n) (rw e)
-      (remove-accepted d (contents t) w (read→contents d t e) (read→shows d t e) room n);
+      careful-of d (contents t) (removeRefusals room n (contents t)) (removeChange n (contents t)) (crateRemove n t) (carefulRemove d room n) (rw e)
+      (remove-accepted d (contents t) w (read→contents d t e) (read→shows d t e) room n)
+      (remove-same d t (read→shows d t e) room n);
 }
 
 -- the disk of an extract is whole

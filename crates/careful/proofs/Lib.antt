@@ -8,4 +8,5 @@ pub mod Push
 pub mod Remove
 pub mod New
 pub mod Accepted
+pub mod Crate
 pub mod Demand3

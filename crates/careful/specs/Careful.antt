@@ -13,11 +13,12 @@ use Rattle.extract.specs.Disk.{Disk, Store}
 use Rattle.extract.specs.Extract.{diskOf}
 use Rattle.extract.specs.Answers.{checkSays}
 use Rattle.table.specs.declared.LogicalPartition.{LogicalPartition}
-use Rattle.read.specs.Read.{Table, read}
+use Rattle.table.specs.declared.MBR.{MBR}
+use Rattle.read.specs.Read.{Table, read, tableOf}
 use Rattle.push.specs.declared.Geometry.{Geometry}
-use Rattle.push.specs.Push.{Request, placeOf, sizeOf, laterThan, newLogical, pushChecks, pushed}
-use Rattle.push.specs.Remove.{removeChecks, without}
-use Rattle.sound.specs.Sound.{Contents, extendedIn, areaEnd, end, soundb}
+use Rattle.push.specs.Push.{Request, placeOf, sizeOf, laterThan, newLogical, pushChecks, pushed, pushTable}
+use Rattle.push.specs.Remove.{removeChecks, without, removeTable}
+use Rattle.sound.specs.Sound.{Contents, contentsOf, extendedIn, areaEnd, end, soundb}
 use Rattle.careful.specs.Stores.{firstPlace, lastOf, pushStores, removeStore}
 
 -- what is read, but for the alignment, which no disk holds
@@ -68,7 +69,7 @@ pushRefusals room q t =
     ++ (19 ! leb roomNeeded room)
     ∷ []
 
--- the crate's push under the first-place rule
+-- its stores; the new partition stands last, and the first-place rule holds
 unfoldable pub pushChange : Request → Contents → Change
 pushChange q t =
     record {
@@ -80,13 +81,39 @@ pushChange q t =
 unfoldable pub removeRefusals : ℕ → ℕ → Contents → List Check
 removeRefusals room n t = (20 ! soundb t) ∷ removeChecks n (length (t .logicals)) ++ (19 ! leb roomNeeded room) ∷ []
 
--- the crate's removal under the first-place rule
+-- its store; the list without that one, and the first-place rule holds
 unfoldable pub removeChange : ℕ → Contents → Change
 removeChange n t =
     record {
       stores = removeStore (areaOf t) (t .logicals) (n - 5) ∷ [];
       result = relist t (firstPlace (areaOf t) (without (t .logicals) (n - 5)));
     }
+
+-- a table by value with the request's alignment and geometry, as the crate's push takes it
+unfoldable pub asAsked : MBR → Request → MBR
+asAsked t q =
+    record {
+      «sector_size» = t .«sector_size»;
+      header = t .header;
+      «logical_partitions» = t .«logical_partitions»;
+      count = t .count;
+      align = q .align;
+      cylinders = q .geometry .cylinders;
+      heads = q .geometry .heads;
+      sectors = q .geometry .sectors;
+      «disk_size» = t .«disk_size»;
+    }
+
+-- the tables that the crate's own push and removal give
+unfoldable pub cratePush : Request → Table → Contents
+cratePush q t = contentsOf (pushTable (asAsked (tableOf t) q) (q .sys) (q .start) (q .sectors))
+
+unfoldable pub crateRemove : ℕ → Table → Contents
+crateRemove n t = contentsOf (removeTable (tableOf t) n)
+
+-- a table under the first-place rule
+unfoldable pub inFirstPlace : Contents → Contents
+inFirstPlace t = relist t (firstPlace (areaOf t) (t .logicals))
 
 -- careful push and careful removal on a disk, with so much room lent for the stores
 unfoldable pub carefulPush : Disk → ℕ → Request → Said Change

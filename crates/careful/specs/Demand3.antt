@@ -14,7 +14,7 @@ use Rattle.read.specs.Read.{Table, read}
 use Rattle.push.specs.Push.{Request}
 use Rattle.sound.specs.Is.{All}
 use Rattle.sound.specs.Sound.{Contents, primariesOf, Used, Extended, Sound}
-use Rattle.careful.specs.Careful.{contents, Change, pushRefusals, pushChange, removeRefusals, removeChange, carefulPush, carefulRemove}
+use Rattle.careful.specs.Careful.{contents, Change, pushRefusals, pushChange, removeRefusals, removeChange, cratePush, crateRemove, inFirstPlace, carefulPush, carefulRemove}
 
 -- what a disk reads as, alignment left out
 unfoldable pub contentsOn : Disk → Said Contents
@@ -45,11 +45,12 @@ pub record Safe (d : Disk) (t : Contents) (c : Change) : Type 0 where
   -- the table after is sound
   pub sound : Sound (c .result)
 
--- what a careful change says: refused exactly as listed, otherwise the change, which is safe
-pub record Careful (d : Disk) (t : Contents) (refusals : List Check) (c : Change) (says : Said Change) : Type 0 where
+-- what a careful change says: refused exactly as listed; otherwise the change, which is safe and ends in the crate's own table under the first-place rule
+pub record Careful (d : Disk) (t : Contents) (refusals : List Check) (c : Change) (crate : Contents) (says : Said Change) : Type 0 where
   pub refused : (k : ℕ) → FirstFail refusals k → says ≡ refuses k
   pub accepted : AllHold refusals → says ≡ gives c
   pub safe : AllHold refusals → Safe d t c
+  pub same : AllHold refusals → c .result ≡ inFirstPlace crate
 
 -- a disk of fewer than 2^32 sectors, each a record: such is the disk of an extract
 pub record Whole (d : Disk) : Type 0 where
@@ -68,6 +69,6 @@ pub record Demand3 (d : Disk) : Type 0 where
   pub unread-remove : (k room n : ℕ) → read d ≡ refuses k → carefulRemove d room n ≡ refuses k
   -- then those listed; sound, 20, is the first of them
   pub push : (t : Table) → read d ≡ gives t → (room : ℕ) (q : Request) → Asked q
-      → Careful d (contents t) (pushRefusals room q (contents t)) (pushChange q (contents t)) (carefulPush d room q)
+      → Careful d (contents t) (pushRefusals room q (contents t)) (pushChange q (contents t)) (cratePush q t) (carefulPush d room q)
   pub remove : (t : Table) → read d ≡ gives t → (room n : ℕ)
-      → Careful d (contents t) (removeRefusals room n (contents t)) (removeChange n (contents t)) (carefulRemove d room n)
+      → Careful d (contents t) (removeRefusals room n (contents t)) (removeChange n (contents t)) (crateRemove n t) (carefulRemove d room n)

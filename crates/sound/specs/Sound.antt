@@ -7,9 +7,9 @@ use mathlib.Core.Option.{Option, none, some, Option·getD}
 use mathlib.Core.List.{List, [], _∷_}
 use lib.Dec.{ltb, leb, eqb}
 use lib.ListN.{getD}
-use Rattle.base.specs.Pick.{pick}
 use Rattle.base.specs.Bytes.{standsAt}
-use Rattle.base.specs.Checks.{Check, _!_, checked}
+use Rattle.base.specs.Said.{Said, gives, refuses}
+use Rattle.base.specs.Checks.{Check, _!_, checked, answer}
 use Rattle.base.specs.Row.{Row}
 use Rattle.chs.specs.declared.CHS.{CHS}
 use Rattle.entry.specs.declared.MBRPartitionEntry.{MBRPartitionEntry}
@@ -22,7 +22,7 @@ use Rattle.table.specs.declared.MaybeChs.{MaybeChs}
 use Rattle.table.specs.declared.MaybeChs.the-variants.{Absent as NoChs, Present as SomeChs}
 use Rattle.table.specs.declared.LogicalPartition.{LogicalPartition}
 use Rattle.table.specs.declared.MBR.{MBR}
-use Rattle.table.specs.Table.{logicals, parts}
+use Rattle.table.specs.Table.{most, logicals, parts}
 use Rattle.chain.specs.Facts.{at, start, Before}
 use Rattle.sound.specs.Is.{All, allb, Pairs, pairsb, rowb, later}
 
@@ -301,3 +301,7 @@ soundRules t =
 -- the test: no rule is broken
 unfoldable pub soundb : Contents → Bool
 soundb t = checked (soundRules t) (λ k. false) true
+
+-- the test on a table handed in: a count over 24 is 6
+unfoldable pub soundSays : MBR → Said Bool
+soundSays t = answer ((6 ! leb (t .count) most) ∷ []) (soundb (contentsOf t))

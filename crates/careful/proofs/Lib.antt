@@ -10,3 +10,4 @@ pub mod New
 pub mod Accepted
 pub mod Crate
 pub mod Demand3
+pub mod Output

@@ -1,3 +1,4 @@
 pub mod Stores
 pub mod Careful
 pub mod Demand3
+pub mod Output

@@ -1,0 +1,31 @@
+-- Stores in lent bytes: each its LBA (4 bytes, little-endian) and a record. Assumes nothing.
+use Prim.Native.Nat.{ℕ, zero, suc}
+use mathlib.Core.List.{List, [], _∷_, _++_}
+use lib.ListN.{length, take, drop}
+use Rattle.base.specs.Bytes.{number, bytesOf, little}
+use Rattle.base.specs.Put.{put}
+use Rattle.base.specs.Said.{Said, gives, refuses}
+use Rattle.extract.specs.Disk.{Store}
+use Rattle.careful.specs.Careful.{Change}
+
+unfoldable pub storeBytes : Store → List ℕ
+storeBytes s = bytesOf little 4 (s .lba) ++ s .bytes
+
+-- one after another
+unfoldable pub storesBytes : List Store → List ℕ
+storesBytes [] = []
+storesBytes (s ∷ ss) = storeBytes s ++ storesBytes ss
+
+-- the first n stores in lent bytes
+unfoldable pub storesIn : List ℕ → ℕ → List Store
+storesIn out zero = []
+storesIn out (suc n) = record { lba = number little (take 4 out); bytes = take 512 (drop 4 out) } ∷ storesIn (drop 516 out) n
+
+-- the lent output after a careful change: as before if it is refused, else only the stores' own bytes change
+unfoldable pub outAfter : List ℕ → Said Change → List ℕ
+outAfter out (refuses k) = out
+outAfter out (gives c) = put out 0 (storesBytes (c .stores))
+
+-- the number of stores
+abbrev pub countOf : Change → ℕ
+countOf c = length (c .stores)

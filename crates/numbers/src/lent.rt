@@ -2,7 +2,8 @@
 use crate::line;
 use crate::say;
 use crate::state;
-use crate::state::{Changed, State};
+use crate::state::Changed;
+use crate::state::State;
 use base::Answer;
 ghost use Prim.Native.Nat.{_<_};
 

@@ -63,7 +63,10 @@ pub fn at(text: &[u8], from: usize) -> Line
 {
     let end = find(text, from, b'\n');
     if end == text.len() {
-        return Line { end: end, next: end };
+        return Line {
+            end: end,
+            next: end,
+        };
     }
     Line {
         end: end,

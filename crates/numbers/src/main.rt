@@ -8,7 +8,8 @@ mod on_mbr;
 mod say;
 mod state;
 
-use state::{Changed, State};
+use state::Changed;
+use state::State;
 
 fn main() {
     let mut text = [0u8; 262144];

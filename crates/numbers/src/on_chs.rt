@@ -1,8 +1,10 @@
 // CHS addresses.
 ghost use Prim.Native.Nat.{_<_};
-use chs::{CHS, Lba, Placed};
 use crate::line;
 use crate::say;
+use chs::CHS;
+use chs::Lba;
+use chs::Placed;
 
 pub fn show(c: CHS) {
     say::number(c.cylinder as u64);
@@ -27,11 +29,21 @@ fn placed(p: Placed) {
 }
 
 fn exact(l: &[u8]) {
-    placed(CHS::from_lba_exact(line::n32(l, 1), line::n16(l, 2), line::n8(l, 3), line::n8(l, 4)));
+    placed(CHS::from_lba_exact(
+        line::n32(l, 1),
+        line::n16(l, 2),
+        line::n8(l, 3),
+        line::n8(l, 4),
+    ));
 }
 
 fn aligned(l: &[u8]) {
-    placed(CHS::from_lba_aligned(line::n32(l, 1), line::n16(l, 2), line::n8(l, 3), line::n8(l, 4)));
+    placed(CHS::from_lba_aligned(
+        line::n32(l, 1),
+        line::n16(l, 2),
+        line::n8(l, 3),
+        line::n8(l, 4),
+    ));
 }
 
 fn to_lba(l: &[u8]) {

@@ -4,9 +4,11 @@ use crate::line;
 use crate::on_entry;
 use crate::say;
 use crate::state;
-use crate::state::{Changed, State};
+use crate::state::Changed;
+use crate::state::State;
 use base::Answer;
-use ebr::{EBRHeader, Kept};
+use ebr::EBRHeader;
+use ebr::Kept;
 
 fn show(e: EBRHeader) {
     let kept = e.kept;

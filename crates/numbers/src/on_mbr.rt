@@ -4,9 +4,12 @@ use crate::line;
 use crate::on_entry;
 use crate::say;
 use crate::state;
-use crate::state::{Changed, State};
+use crate::state::Changed;
+use crate::state::State;
 use base::Answer;
-use mbr::{Found, MBRHeader, Protection};
+use mbr::Found;
+use mbr::MBRHeader;
+use mbr::Protection;
 
 fn show_entries(h: MBRHeader) {
     let first = h.partition_1;

@@ -11,28 +11,40 @@ Inv-loop text x₀ o₀ s₀ at₀ x o s at = (at ≤ length text) × ((length x
 
 abbrev μ-loop : tie.MeasureT-loop
 μ-loop text x₀ o₀ s₀ at₀ x o s at = length text - at
+
 start-requires : tie.Need-start-requires Inv-loop μ-loop
 start-requires c κs = search needs
+
 loop-holds : tie.Need-loop-holds Inv-loop μ-loop
 loop-holds c = search needs
+
 at-requires : tie.Need-at-requires Inv-loop μ-loop
 at-requires c κs = search needs
+
 sub-command : tie.Need-sub-command Inv-loop μ-loop
 sub-command c = search needs
+
 part-command-start : tie.Need-part-command-start Inv-loop μ-loop
 part-command-start c = search needs
+
 part-command-end : tie.Need-part-command-end Inv-loop μ-loop
 part-command-end c = search needs
+
 command-requires : tie.Need-command-requires Inv-loop μ-loop
 command-requires c κs = search needs
+
 loop-less : tie.Need-loop-less Inv-loop μ-loop
 loop-less c = search needs
+
 loop-again : tie.Need-loop-again Inv-loop μ-loop
 loop-again c = search needs
+
 same-length : tie.Need-same-length Inv-loop μ-loop
 same-length c = search needs
+
 same-length-2 : tie.Need-same-length-2 Inv-loop μ-loop
 same-length-2 c = search needs
+
 returns : tie.Need-returns Inv-loop μ-loop
 returns c = search needs
 

@@ -116,7 +116,7 @@ returns c =
     let x₅ = x₄ ++ y₅ in
     let w₅ = then d _ _ at _ _ x₄ y₅ w₄ (omega (arith, s .pre)) p-put-spaced2 (c .before .before .before .before .before .before .put-spaced2 .ensures .1) in
     let z = then d _ _ at _ _ x₅ newline w₅ (omega (arith, s .pre)) refl (c .before .before .put8 .ensures) in
-    (z .place, z .bytes)
+    (z .place, z .bytes, omega arith)
 
 pub put-entry-spec : {M : Type 1} → statement M
 put-entry-spec =

@@ -135,7 +135,7 @@ returns c =
     let w₆ = then d _ _ 0 _ _ x₅ (decimal (s .args .count)) w₅ (omega (arith, s .pre)) p-put-number3 (c .before .before .before .before .before .before .put-number3 .ensures .1) in
     let x₇ = x₆ ++ newline in
     let w₇ = then d _ _ 0 _ _ x₆ (newline) w₆ (omega (arith, s .pre)) refl (c .before .before .put8 .ensures) in
-    (w₇ .place ∙ omega arith, w₇ .bytes)
+    (w₇ .place ∙ omega arith, w₇ .bytes, omega arith)
 
 pub put-first-spec : {M : Type 1} → statement M
 put-first-spec =

@@ -5,11 +5,11 @@ use Prim.Native.Nat.{ℕ, zero, suc, _+_, _*_, _/_, _%_, _^_, _≤_, _<_}
 use native.Mathlib.Nat.{add-zero}
 use native.Mathlib.Numerals.{add-one}
 use native.Mathlib.Omega.{arith}
-use lib.ListN.{length, take, drop, getD, replicate, length-reverse, drop-of-length-le}
-use lib.Seq.{drop-cons}
+use lib.ListN.{length, take, drop, getD, replicate, length-append, length-reverse, drop-of-length-le}
+use lib.Seq.{drop-cons, drop-at, take-at, take-add}
 use lib.Dec.{eqb}
-use mathlib.Core.Bool.{true, false, _&&_}
-use borrow.Author.Tests.{eq-eqb, ne-eqb}
+use mathlib.Core.Bool.{Bool, true, false, _&&_}
+use borrow.Author.Tests.{eqb-true, eq-eqb, ne-eqb}
 use Rattle.base.specs.Bytes.{Bytes, plus, from, bytesAt, standsAt, Order, little, big, inOrder, sum, digits, number, bytesOf, top}
 
 -- bytes of lists
@@ -123,6 +123,43 @@ from-part s at k (suc n) h =
 
 pub bytesAt-part : (s : List ℕ) (at n : ℕ) → at + n ≤ length s → bytesAt s at n ≡ take n (drop at s)
 bytesAt-part s at n h = from-part s at 0 n (omega arith) ∙ rw add-zero
+
+-- a part that stands in a list is the bytes at its place
+pub part-within : (s p xs q : List ℕ) (at n : ℕ) → s ≡ p ++ (xs ++ q) → length p ≡ at → length xs ≡ n → bytesAt s at n ≡ xs
+part-within s p xs q at n e a b =
+    let h : at + n ≤ length s = omega (arith, ap length e, length-append p (xs ++ q), length-append xs q) in
+    bytesAt-part s at n h ∙ rw (e, drop-at p (xs ++ q) at a, take-at xs q n b)
+
+-- two neighbouring parts of a list, joined
+pub parts-join : (s x y : List ℕ) (a b c : ℕ) → x ≡ take a s → y ≡ take b (drop a s) → a + b ≡ c → x ++ y ≡ take c s
+parts-join s x y a b c e f g = rw (e, f, ← g) (sym (take-add a b s))
+
+-- a word stands at a place exactly when the bytes there are it
+both-true : (a b : Bool) → (a && b) ≡ true → (a ≡ true) × (b ≡ true)
+both-true true b h = (refl, h)
+both-true false b h = let w : _≡_ {A = ℕ} 0 1 = cc in absurd (omega arith)
+
+stands-from : (s : List ℕ) (at k : ℕ) (w : List ℕ) → standsAt s (at + k) w ≡ true → from s at k (length w) ≡ w
+stands-from s at k [] h = refl
+stands-from s at k (x ∷ xs) h =
+    let p = both-true (eqb (getD s (at + k) 0) x) (standsAt s (at + k + 1) xs) h in
+    let f : at + k + 1 ≡ at + suc k = omega arith in
+    let g : getD s (at + k) 0 ≡ x = eqb-true (getD s (at + k) 0) x (p .0) in
+    rw (plus-eq at k, g) (ap (_∷_ x) (stands-from s at (suc k) xs (rw f at (p .1))))
+
+pub stands-bytes : (s : List ℕ) (at : ℕ) (w : List ℕ) → standsAt s at w ≡ true → bytesAt s at (length w) ≡ w
+stands-bytes s at w h = stands-from s at 0 w (rw add-zero h)
+
+from-stands : (s : List ℕ) (at k : ℕ) (w : List ℕ) → from s at k (length w) ≡ w → standsAt s (at + k) w ≡ true
+from-stands s at k [] h = refl
+from-stands s at k (x ∷ xs) h =
+    let p : getD s (plus at k) 0 ≡ x = cc in
+    let q : from s at (suc k) (length xs) ≡ xs = cc in
+    let f : at + k + 1 ≡ at + suc k = omega arith in
+    rw (eq-eqb (getD s (at + k) 0) x (rw (plus-eq at k) at p), f) (from-stands s at (suc k) xs q)
+
+pub bytes-stand : (s : List ℕ) (at : ℕ) (w : List ℕ) → bytesAt s at (length w) ≡ w → standsAt s at w ≡ true
+bytes-stand s at w h = rw add-zero at (from-stands s at 0 w h)
 
 -- one letter of a word
 module _ (s w : List ℕ) (at i : ℕ) where

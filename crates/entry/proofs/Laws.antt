@@ -26,6 +26,10 @@ pub entry-back : (e : MBRPartitionEntry) (rest : List ℕ) → EntryOk e → ent
 entry-back e rest k =
     rw (chs-back (e .«first_chs») (k .first), chs-back (e .«last_chs») (k .last), number-bytesOf little 4 (e .«starting_lba») (k .start), number-bytesOf little 4 (e .sectors) (k .sectors))
 
+-- an entry whose fields fit, written among other bytes, is read back
+pub entry-within : (s p q : List ℕ) (at : ℕ) (e : MBRPartitionEntry) → s ≡ p ++ (entryBytes e ++ q) → length p ≡ at → EntryOk e → entryAt s at ≡ e
+entry-within s p q at e w l k = ap (λ (t : List ℕ). entryAt t at) w ∙ entry-past p (entryBytes e ++ q) at l ∙ entry-back e q k
+
 -- the 16 bytes of what is read from bytes are those bytes
 pub entry-bytes-back : (s : List ℕ) (at : ℕ) → Bytes s → entryBytes (entryAt s at) ≡ bytesAt s at 16
 entry-bytes-back s at b =

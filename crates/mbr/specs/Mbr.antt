@@ -88,6 +88,19 @@ unfoldable pub extendedOf : List MBRPartitionEntry → Option MBRPartitionEntry
 extendedOf [] = none
 extendedOf (e ∷ es) = pick (extended (e .sys)) (some e) (extendedOf es)
 
+-- none of these is extended
+abbrev pub PlainAll : List MBRPartitionEntry → Type 0
+PlainAll [] = Unit {0}
+PlainAll (e ∷ es) = (extended (e .sys) ≡ false) × PlainAll es
+
+-- `e` is the first extended one of the entries
+pub record FirstExtended (es : List MBRPartitionEntry) (e : MBRPartitionEntry) : Type 0 where
+  pub before : List MBRPartitionEntry
+  pub behind : List MBRPartitionEntry
+  pub parts : es ≡ before ++ e ∷ behind
+  pub plain : PlainAll before
+  pub is-extended : extended (e .sys) ≡ true
+
 -- entries are numbered from 1 to 4
 abbrev pub primaryOf : MBRHeader → ℕ → Option MBRPartitionEntry
 primaryOf h i =

@@ -1,1 +1,2 @@
 pub mod Mbr
+pub mod Uefi

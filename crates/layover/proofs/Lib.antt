@@ -4,3 +4,4 @@ pub mod Cut
 pub mod Written
 pub mod Rules
 pub mod Laws
+pub mod Examples

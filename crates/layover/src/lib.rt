@@ -7,10 +7,9 @@ ghost use mathlib.Core.Path.{_≡_};
 ghost use Prim.Native.Nat.{ℕ, _+_, _*_, _-_, _≤_, _<_};
 ghost use lib.ListN.{length};
 ghost use Rattle.base.specs.Put.{put};
-ghost use Rattle.base.specs.Checks.{answer, checked};
-ghost use Rattle.layover.specs.Layover.{headerBytes, newExtract, roomChecks};
+ghost use Rattle.layover.specs.Layover.{headerBytes};
 ghost use Rattle.layover.specs.Cut.{many, lbaParts, recordParts, allParts, Room, Laying};
-ghost use Rattle.layover.specs.Answers.{laidSaid, laySays, layLeaves};
+ghost use Rattle.layover.specs.Answers.{laidSaid, roomSays, roomLeaves, laySays, layLeaves};
 
 // What laying a record over an extract says: the new extract's length, or the refusal.
 pub enum Laid {
@@ -74,8 +73,8 @@ fn put_extract(out: &mut [u8], x: &[u8], e: Extract, p: usize, q: usize, lba: u3
 // The record put where those from number p up to q are, if there is room.
 fn lay_at(out: &mut [u8], x: &[u8], e: Extract, p: usize, q: usize, lba: u32, sector: &[u8]) -> Laid
     requires { ⌜ Laying (now x) e p q lba (now sector) ⌝ }
-    ensures said { λ r. ⌜ laidSaid r ≡ answer (roomChecks (now (x .entry)) lba (now (sector .entry)) (length (now (out .entry)))) (length (newExtract (now (x .entry)) lba (now (sector .entry)))) ⌝ }
-    ensures left { λ r. ⌜ now (out .exit) ≡ checked (roomChecks (now (x .entry)) lba (now (sector .entry)) (length (now (out .entry)))) (λ k. now (out .entry)) (put (now (out .entry)) 0 (newExtract (now (x .entry)) lba (now (sector .entry)))) ⌝ }
+    ensures said { λ r. ⌜ laidSaid r ≡ roomSays (now (x .entry)) lba (now (sector .entry)) (length (now (out .entry))) ⌝ }
+    ensures left { λ r. ⌜ now (out .exit) ≡ roomLeaves (now (x .entry)) lba (now (sector .entry)) (now (out .entry)) ⌝ }
 {
     let n = e.count;
     let m = p + 1 + (n - q);

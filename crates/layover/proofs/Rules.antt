@@ -9,6 +9,8 @@ use lib.Dec.{eqb, leb, ltb}
 use lib.ListN.{length, take, drop, length-append}
 use borrow.Author.Tests.{lt-ltb, le-ltb, le-leb, lt-leb, eq-eqb, ne-eqb}
 use Rattle.base.specs.Bytes.{Bytes, Record, bytesOf, little}
+use Rattle.base.specs.Put.{put}
+use Rattle.base.specs.Said.{Said, gives, refuses}
 use Rattle.base.specs.Checks.{Check, _!_, checked, first-fail}
 use Rattle.base.proofs.Checks.{append-fails, append-holds}
 use Rattle.extract.specs.Disk.{Store}
@@ -18,6 +20,7 @@ use Rattle.extract.specs.declared.Extract.{Extract}
 use Rattle.extract.proofs.Good.{word-below}
 use Rattle.extract.proofs.Disk.{record-at}
 use Rattle.layover.specs.Layover.{lbaBytes, recordBytes, headerBytes, extractBytes, laidOver, newRecords, newExtract, roomChecks, layChecks}
+use Rattle.layover.specs.Answers.{roomSays, roomLeaves, laySays, layLeaves}
 use Rattle.layover.specs.Cut.{part, cut, many, lbaParts, recordParts, allParts, Room, Laying}
 use Rattle.layover.proofs.Sorted.{Fit, over-fit}
 use Rattle.layover.proofs.Parts.{lbas-part, records-part, lbaBytes-append, recordBytes-append, length-records, length-extract}
@@ -112,6 +115,13 @@ module _ (x : List ℕ) (e : Extract) (p q a : ℕ) (r : List ℕ) (l : Laying x
     unfolding roomChecks
     room-fine h k = rw (laid-many, laid-length, le-leb (many (e .count) p q) 64 h, le-leb (24 + many (e .count) p q * 516) room k)
 
+  -- with room: the length, and the parts written
+  pub room-said : (o : List ℕ) → many (e .count) p q ≤ 64 → 24 + many (e .count) p q * 516 ≤ length o → gives (24 + many (e .count) p q * 516) ≡ roomSays x a r (length o)
+  room-said o h k = ap gives (sym laid-length) ∙ sym (room-fine (length o) refuses (gives (length (newExtract x a r))) h k)
+
+  pub room-left : (o d : List ℕ) → many (e .count) p q ≤ 64 → 24 + many (e .count) p q * 516 ≤ length o → d ≡ put o 0 (allParts x e p q a r) → d ≡ roomLeaves x a r o
+  room-left o d h k f = f ∙ ap (put o 0) laid-parts ∙ sym (room-fine (length o) (λ n. o) (put o 0 (newExtract x a r)) h k)
+
 -- the refusals before
 module _ {A : Type 0} (x : List ℕ) (a : ℕ) (r : List ℕ) (room : ℕ) (deny : ℕ → A) (grant : A) where
   pub lay-bad : (k : ℕ) → first-fail (extractChecks x) ≡ some k → checked (layChecks x a r room) deny grant ≡ deny k
@@ -130,3 +140,13 @@ module _ {A : Type 0} (x : List ℕ) (a : ℕ) (r : List ℕ) (room : ℕ) (deny
 
   pub lay-on : Good x → length r ≡ 512 → a < diskSectors x → checked (layChecks x a r room) deny grant ≡ checked (roomChecks x a r room) deny grant
   lay-on g h k = lay-good g ∙ rw (eq-eqb (length r) 512 h, lt-ltb a (diskSectors x) k)
+
+-- past the first refusals, those of room decide
+module _ (x : List ℕ) (a : ℕ) (r o : List ℕ) (g : Good x) (h : length r ≡ 512) (k : a < diskSectors x) where
+  pub on-said : (v : Said ℕ) → v ≡ roomSays x a r (length o) → v ≡ laySays x a r (length o)
+  unfolding laySays
+  on-said v e = e ∙ sym (lay-on x a r (length o) refuses (gives (length (newExtract x a r))) g h k)
+
+  pub on-left : (d : List ℕ) → d ≡ roomLeaves x a r o → d ≡ layLeaves x a r o
+  unfolding layLeaves
+  on-left d e = e ∙ sym (lay-on x a r (length o) (λ n. o) (put o 0 (newExtract x a r)) g h k)

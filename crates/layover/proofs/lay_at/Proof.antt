@@ -1,9 +1,9 @@
-use mathlib.Core.Path.{sym, ap, _∙_}
+use mathlib.Core.Path.{sym}
 use lib.ListN.{length}
 use Rattle.base.specs.Said.{gives, refuses}
 use Rattle.base.specs.Put.{put}
 use Rattle.layover.specs.Layover.{newExtract}
-use Rattle.layover.proofs.Rules.{laid-parts, laid-length, room-many, room-short, room-fine}
+use Rattle.layover.proofs.Rules.{room-many, room-short, room-said, room-left}
 use borrow.Author.Needs.{needs}
 use Rattle.layover.proofs.lay_at.Statement.{statement}
 use Rattle.layover.proofs.lay_at.Tie as tie
@@ -56,19 +56,9 @@ same-length c = search needs
 
 returns-3 : tie.Need-returns-3
 returns-3 c =
-    let s = c .before .before .before .before .before .before .before .before .before in
-    let x = s .args .x .now in
-    let r = s .args .sector .now in
-    let o = s .args .out .now in
-    let new = newExtract x (s .args .lba) r in
-    let e = room-fine x (s .args .e) (s .args .p) (s .args .q) (s .args .lba) r (s .pre) (length o) refuses (gives (length new)) in
-    let u = room-fine x (s .args .e) (s .args .p) (s .args .q) (s .args .lba) r (s .pre) (length o) (λ k. o) (put o 0 new) in
-    let h = c .before .before .before .before .before .if1 .left in
-    let k = c .before .before .before .before .if2 .left in
-    let l = laid-length x (s .args .e) (s .args .p) (s .args .q) (s .args .lba) r (s .pre) in
-    let f = laid-parts x (s .args .e) (s .args .p) (s .args .q) (s .args .lba) r (s .pre) in (
-      ap gives (sym l) ∙ sym (e h k),
-      c .before .before .put-extract .ensures ∙ ap (put o 0) f ∙ sym (u h k),
+    let s = c .before .before .before .before .before .before .before .before .before in (
+      room-said (s .args .x .now) (s .args .e) (s .args .p) (s .args .q) (s .args .lba) (s .args .sector .now) (s .pre) (s .args .out .now) (c .before .before .before .before .before .if1 .left) (c .before .before .before .before .if2 .left),
+      room-left (s .args .x .now) (s .args .e) (s .args .p) (s .args .q) (s .args .lba) (s .args .sector .now) (s .pre) (s .args .out .now) _ (c .before .before .before .before .before .if1 .left) (c .before .before .before .before .if2 .left) (c .before .before .put-extract .ensures),
     )
 
 pub lay-at-spec : {M : Type 1} → statement M

@@ -13,7 +13,7 @@ use Rattle.layover.specs.Layover.{newExtract}
 use Rattle.layover.specs.Cut.{Laying}
 use Rattle.layover.specs.Answers.{laySays, layLeaves}
 use Rattle.layover.proofs.Cut.{laying-found, laying-absent}
-use Rattle.layover.proofs.Rules.{lay-bad, lay-record, lay-past, lay-on}
+use Rattle.layover.proofs.Rules.{lay-bad, lay-record, lay-past, on-said, on-left}
 use borrow.Author.Needs.{needs}
 use Rattle.layover.proofs.lay_over.Statement.{statement}
 use Rattle.layover.proofs.lay_over.Tie as tie
@@ -129,39 +129,27 @@ same-length : tie.Need-same-length
 same-length c = search needs
 
 returns-4 : tie.Need-returns-4
-unfolding laySays layLeaves
 returns-4 c =
     let s = c .before .before .before .before .before .before .before .before .before .before .before .before .before .before .before .before .before .before in
-    let x = s .args .x .now in
-    let r = s .args .sector .now in
-    let o = s .args .out .now in
-    let new = newExtract x (s .args .lba) r in
-    let e = lay-on x (s .args .lba) r (length o) refuses (gives (length new)) in
-    let u = lay-on x (s .args .lba) r (length o) (λ k. o) (put o 0 new) in
     let g = told (c .before .before .before .before .before .before .before .before .before .before .before .before) .0 in
     let l = c .before .before .before .before .before .before .before .before .before .before .if1 .left in
-    let i = inside (c .before .before .before .before .before .before .before .before) in
-    let f = c .before .before .lay-at .ensures in
-    (f .0 ∙ sym (e g l i), f .1 ∙ sym (u g l i))
+    let i = inside (c .before .before .before .before .before .before .before .before) in (
+      on-said (s .args .x .now) (s .args .lba) (s .args .sector .now) (s .args .out .now) g l i _ (c .before .before .lay-at .ensures .0),
+      on-left (s .args .x .now) (s .args .lba) (s .args .sector .now) (s .args .out .now) g l i _ (c .before .before .lay-at .ensures .1),
+    )
 
 same-length-2 : tie.Need-same-length-2
 same-length-2 c = search needs
 
 returns-5 : tie.Need-returns-5
-unfolding laySays layLeaves
 returns-5 c =
     let s = c .before .before .before .before .before .before .before .before .before .before .before .before .before .before .before .before .before .before in
-    let x = s .args .x .now in
-    let r = s .args .sector .now in
-    let o = s .args .out .now in
-    let new = newExtract x (s .args .lba) r in
-    let e = lay-on x (s .args .lba) r (length o) refuses (gives (length new)) in
-    let u = lay-on x (s .args .lba) r (length o) (λ k. o) (put o 0 new) in
     let g = told (c .before .before .before .before .before .before .before .before .before .before .before .before) .0 in
     let l = c .before .before .before .before .before .before .before .before .before .before .if1 .left in
-    let i = inside (c .before .before .before .before .before .before .before .before) in
-    let f = c .before .before .lay-at2 .ensures in
-    (f .0 ∙ sym (e g l i), f .1 ∙ sym (u g l i))
+    let i = inside (c .before .before .before .before .before .before .before .before) in (
+      on-said (s .args .x .now) (s .args .lba) (s .args .sector .now) (s .args .out .now) g l i _ (c .before .before .lay-at2 .ensures .0),
+      on-left (s .args .x .now) (s .args .lba) (s .args .sector .now) (s .args .out .now) g l i _ (c .before .before .lay-at2 .ensures .1),
+    )
 
 pub lay-over-spec : {M : Type 1} → statement M
 lay-over-spec =

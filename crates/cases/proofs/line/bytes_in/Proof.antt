@@ -1,10 +1,10 @@
--- The loop reads no index past the end of the line and writes none past the end of the bytes.
+-- The loop reads no index past the end of the line; the bytes keep their length.
 use Prim.Native.Nat.{_≤_, _-_}
 use borrow.Author.Needs.{needs}
 use lib.ListN.{length}
 use mathlib.Core.Path.{_≡_}
-use Rattle.numbers.proofs.line.bytes_in.Statement.{statement}
-use Rattle.numbers.proofs.line.bytes_in.Tie as tie
+use Rattle.cases.proofs.line.bytes_in.Statement.{statement}
+use Rattle.cases.proofs.line.bytes_in.Tie as tie
 
 abbrev Inv-loop : tie.InvT-loop
 Inv-loop l k d₀ at i₀ to₀ d i to = (i ≤ length l) × (length d ≡ length d₀)
@@ -27,26 +27,17 @@ same-length c = search needs
 returns : tie.Need-returns Inv-loop μ-loop
 returns c = search needs
 
-shared-slice-read-nibble : tie.Need-shared-slice-read-nibble Inv-loop μ-loop
-shared-slice-read-nibble c = search needs
+shared-slice-read-spelt : tie.Need-shared-slice-read-spelt Inv-loop μ-loop
+shared-slice-read-spelt c = search needs
 
-nibble-requires : tie.Need-nibble-requires Inv-loop μ-loop
-nibble-requires c κs = search needs
+add-spelt : tie.Need-add-spelt Inv-loop μ-loop
+add-spelt c = search needs
 
-mul-d : tie.Need-mul-d Inv-loop μ-loop
-mul-d c = search needs
+shared-slice-read-spelt-2 : tie.Need-shared-slice-read-spelt-2 Inv-loop μ-loop
+shared-slice-read-spelt-2 c = search needs
 
-add-nibble : tie.Need-add-nibble Inv-loop μ-loop
-add-nibble c = search needs
-
-shared-slice-read-nibble-2 : tie.Need-shared-slice-read-nibble-2 Inv-loop μ-loop
-shared-slice-read-nibble-2 c = search needs
-
-nibble-requires-2 : tie.Need-nibble-requires-2 Inv-loop μ-loop
-nibble-requires-2 c κs = search needs
-
-add-d : tie.Need-add-d Inv-loop μ-loop
-add-d c = search needs
+spelt-requires : tie.Need-spelt-requires Inv-loop μ-loop
+spelt-requires c κs = search needs
 
 slice-write-d : tie.Need-slice-write-d Inv-loop μ-loop
 slice-write-d c = search needs
@@ -80,13 +71,10 @@ bytes-in-spec =
     sub-if1
     same-length
     returns
-    shared-slice-read-nibble
-    nibble-requires
-    mul-d
-    add-nibble
-    shared-slice-read-nibble-2
-    nibble-requires-2
-    add-d
+    shared-slice-read-spelt
+    add-spelt
+    shared-slice-read-spelt-2
+    spelt-requires
     slice-write-d
     add-i
     add-to

@@ -1,9 +1,9 @@
--- The number stays below its bound at each digit.
+-- The number stays below its bound.
 use Prim.Native.Nat.{_≤_, _<_, _-_}
 use borrow.Author.Needs.{needs}
 use lib.ListN.{length}
-use Rattle.numbers.proofs.line.number.Statement.{statement}
-use Rattle.numbers.proofs.line.number.Tie as tie
+use Rattle.cases.proofs.line.number.Statement.{statement}
+use Rattle.cases.proofs.line.number.Tie as tie
 
 abbrev Inv-loop : tie.InvT-loop
 Inv-loop l k v₀ i₀ v i = (i ≤ length l) × (v < 1000000000000000000)
@@ -17,26 +17,17 @@ start-of-requires c κs = search needs
 loop-holds : tie.Need-loop-holds Inv-loop μ-loop
 loop-holds c = search needs
 
-shared-slice-read-is-digit : tie.Need-shared-slice-read-is-digit Inv-loop μ-loop
-shared-slice-read-is-digit c = search needs
-
-is-digit-requires : tie.Need-is-digit-requires Inv-loop μ-loop
-is-digit-requires c κs = search needs
-
-returns : tie.Need-returns Inv-loop μ-loop
-returns c = search needs
-
-mul-v : tie.Need-mul-v Inv-loop μ-loop
-mul-v c = search needs
-
 shared-slice-read-digit : tie.Need-shared-slice-read-digit Inv-loop μ-loop
 shared-slice-read-digit c = search needs
 
 digit-requires : tie.Need-digit-requires Inv-loop μ-loop
 digit-requires c κs = search needs
 
-add-v : tie.Need-add-v Inv-loop μ-loop
-add-v c = search needs
+returns : tie.Need-returns Inv-loop μ-loop
+returns c = search needs
+
+longer-requires : tie.Need-longer-requires Inv-loop μ-loop
+longer-requires c κs = search needs
 
 add-i : tie.Need-add-i Inv-loop μ-loop
 add-i c = search needs
@@ -58,13 +49,10 @@ number-spec =
     μ-loop
     start-of-requires
     loop-holds
-    shared-slice-read-is-digit
-    is-digit-requires
-    returns
-    mul-v
     shared-slice-read-digit
     digit-requires
-    add-v
+    returns
+    longer-requires
     add-i
     loop-less
     loop-again

@@ -3,8 +3,8 @@ use Prim.Native.Nat.{_<_, _-_}
 use borrow.Author.Needs.{needs}
 use lib.ListN.{length}
 use mathlib.Core.Path.{_≡_}
-use Rattle.numbers.proofs.lent.checksum.Statement.{statement}
-use Rattle.numbers.proofs.lent.checksum.Tie as tie
+use Rattle.cases.proofs.lent.checksum.Statement.{statement}
+use Rattle.cases.proofs.lent.checksum.Tie as tie
 
 abbrev Inv-loop : tie.InvT-loop
 Inv-loop s sum₀ i₀ i-end sum i = (i-end ≡ length s) × (sum < 4294967291)
@@ -15,17 +15,11 @@ abbrev μ-loop : tie.MeasureT-loop
 loop-holds : tie.Need-loop-holds Inv-loop μ-loop
 loop-holds c = search needs
 
-mul-sum : tie.Need-mul-sum Inv-loop μ-loop
-mul-sum c = search needs
+shared-slice-read-more : tie.Need-shared-slice-read-more Inv-loop μ-loop
+shared-slice-read-more c = search needs
 
-shared-slice-read-wide : tie.Need-shared-slice-read-wide Inv-loop μ-loop
-shared-slice-read-wide c = search needs
-
-wide-requires : tie.Need-wide-requires Inv-loop μ-loop
-wide-requires c κs = search needs
-
-add-sum : tie.Need-add-sum Inv-loop μ-loop
-add-sum c = search needs
+more-requires : tie.Need-more-requires Inv-loop μ-loop
+more-requires c κs = search needs
 
 add-i : tie.Need-add-i Inv-loop μ-loop
 add-i c = search needs
@@ -46,10 +40,8 @@ checksum-spec =
     Inv-loop
     μ-loop
     loop-holds
-    mul-sum
-    shared-slice-read-wide
-    wide-requires
-    add-sum
+    shared-slice-read-more
+    more-requires
     add-i
     loop-less
     loop-again

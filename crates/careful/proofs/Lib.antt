@@ -1,0 +1,12 @@
+pub mod Numbers
+pub mod Places
+pub mod Written
+pub mod Aligned
+pub mod Shown
+pub mod Split
+pub mod Push
+pub mod Remove
+pub mod New
+pub mod Accepted
+pub mod Crate
+pub mod Demand3

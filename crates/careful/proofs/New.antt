@@ -1,0 +1,198 @@
+-- What is known of a pushed partition once no refusal applies. Assumes nothing.
+use mathlib.Core.Path.{_≡_, refl, ap, sym, subst, _∙_}
+use mathlib.Core.Logic.{_⊎_, inl, inr}
+use mathlib.Core.Option.{Option, none, some}
+use mathlib.Core.Bool.{Bool, true, false, not, _&&_}
+use mathlib.Core.List.{List, [], _∷_, _++_}
+use Prim.Native.Nat.{ℕ, zero, suc, _+_, _-_, _*_, _/_, _^_, _≤_, _<_}
+use native.Mathlib.Omega.{arith}
+use lib.Dec.{ltb, leb, eqb}
+use lib.ListN.{length}
+use borrow.Author.Tests.{ltb-true, leb-true, eqb-false, not-true}
+use Rattle.base.specs.Pick.{pick}
+use Rattle.base.specs.Checks.{Check, AllHold}
+use Rattle.base.proofs.Checks.{hold-left, hold-right}
+use Rattle.chs.specs.declared.CHS.{CHS}
+use Rattle.chs.specs.Chs.{ChsOk}
+use Rattle.chs.proofs.Small.{head-fits, sector-fits}
+use Rattle.entry.specs.declared.MBRPartitionEntry.{MBRPartitionEntry}
+use Rattle.entry.specs.Entry.{used, extended, endOf}
+use Rattle.ebr.specs.Ebr.{noKept, KeptOk}
+use Rattle.ebr.proofs.Laws.{no-kept-ok}
+use Rattle.table.specs.declared.MaybeSectors.the-variants.{Absent, Present}
+use Rattle.table.specs.declared.MaybeChs.{MaybeChs}
+use Rattle.table.specs.declared.MaybeChs.the-variants.{Absent as NoChs, Present as SomeChs}
+use Rattle.table.specs.declared.LogicalPartition.{LogicalPartition}
+use Rattle.chain.specs.Facts.{at, start}
+use Rattle.push.specs.declared.Geometry.{Geometry}
+use Rattle.push.specs.Address.{complete, addressIn, addressChecks, lastChecks, linkChecks, updateChecks, addressed}
+use Rattle.push.specs.Push.{Request, placeOf, sizeOf, fresh, newLogical, geometryChecks}
+use Rattle.sound.specs.Sound.{end, Within, IfThere, Used, Extended}
+use Rattle.sound.proofs.Good.{Good, Span}
+use Rattle.careful.specs.Demand3.{Asked}
+use Rattle.careful.proofs.Push.{Writable, Linkable}
+
+and-right : (a b : Bool) → (a && b) ≡ true → b ≡ true
+and-right true b h = h
+and-right false b h = let w : _≡_ {A = ℕ} 0 1 = cc in absurd (omega arith)
+
+-- an address that is not refused fits three bytes
+address-ok : (g : Geometry) (a : ℕ) → g .heads < 256 → complete g ≡ true → AllHold (addressChecks g a) → ChsOk (addressIn g a)
+unfolding complete
+address-ok g a heads c h =
+    let s : g .sectors ≤ 63 = leb-true (g .sectors) 63 (and-right (ltb 0 (g .cylinders) && leb (g .cylinders) 1023 && ltb 0 (g .heads) && ltb 0 (g .sectors)) (leb (g .sectors) 63) c) in
+    let z : (g .heads * g .sectors ≡ 0 → ⊥) = eqb-false (g .heads * g .sectors) 0 (not-true (eqb (g .heads * g .sectors) 0) (h .0)) in
+    let p : a / (g .heads * g .sectors) ≤ 1023 = leb-true (a / (g .heads * g .sectors)) 1023 (h .1 .0) in
+    record {
+      cylinder = omega arith;
+      head = omega (arith, head-fits a (g .heads) (g .sectors) z);
+      sector = omega (arith, sector-fits a (g .heads) (g .sectors) z);
+    }
+
+-- the last link CHS: there for a later one only
+abbrev pub TailOk : Bool → MaybeChs → Type 0
+TailOk true m = (c : CHS) × (m ≡ SomeChs c) × ChsOk c
+TailOk false m = m ≡ NoChs
+
+pub record NewOk (later : Bool) (q : Request) (l : LogicalPartition) : Type 0 where
+  pub place : at l ≡ placeOf q
+  pub start : start l ≡ placeOf q + q .align
+  pub sectors : l .partition .sectors ≡ sizeOf q - q .align
+  pub boot : l .partition .boot ≡ 0
+  pub sys : l .partition .sys ≡ q .sys
+  pub kept : l .kept ≡ noKept
+  pub span : l .«ebr_sectors» ≡ pick later (Present (sizeOf q)) Absent
+  pub first : ChsOk (l .partition .«first_chs»)
+  pub last : ChsOk (l .partition .«last_chs»)
+  pub link : ChsOk (l .«ebr_first_chs»)
+  pub tail : TailOk later (l .«ebr_last_chs»)
+
+unaddressed : (later : Bool) (q : Request) → NewOk later q (fresh later q)
+unfolding fresh
+unaddressed true q = record {
+  place = refl;
+  start = refl;
+  sectors = refl;
+  boot = refl;
+  sys = refl;
+  kept = refl;
+  span = refl;
+  first = omega arith;
+  last = omega arith;
+  link = omega arith;
+  tail = (record { cylinder = 0; head = 0; sector = 0 }, refl, omega arith);
+}
+unaddressed false q = record {
+  place = refl;
+  start = refl;
+  sectors = refl;
+  boot = refl;
+  sys = refl;
+  kept = refl;
+  span = refl;
+  first = omega arith;
+  last = omega arith;
+  link = omega arith;
+  tail = refl;
+}
+
+with-address : (later : Bool) (q : Request) → q .geometry .heads < 256 → complete (q .geometry) ≡ true → AllHold (updateChecks (q .geometry) (fresh later q))
+    → NewOk later q (addressed (q .geometry) (fresh later q))
+unfolding fresh addressed updateChecks
+with-address true q heads c h =
+    let g : Geometry = q .geometry in
+    let h₈ = h .1 .1 .1 .1 .1 .1 .1 .1 in
+    record {
+      place = refl;
+      start = refl;
+      sectors = refl;
+      boot = refl;
+      sys = refl;
+      kept = refl;
+      span = refl;
+      first = address-ok g (placeOf q + q .align) heads c (h .0, (h .1 .0, (h .1 .1 .0, tt)));
+      last = address-ok g (placeOf q + q .align + (sizeOf q - q .align) - 1) heads c
+          (h .1 .1 .1 .1 .1 .0, (h .1 .1 .1 .1 .1 .1 .0, (h .1 .1 .1 .1 .1 .1 .1 .0, tt)));
+      link = address-ok g (placeOf q) heads c (h₈ .0, (h₈ .1 .0, (h₈ .1 .1 .0, tt)));
+      tail = (addressIn g (placeOf q + sizeOf q - 1), refl, address-ok g (placeOf q + sizeOf q - 1) heads c (h₈ .1 .1 .1 .1 .1));
+    }
+with-address false q heads c h =
+    let g : Geometry = q .geometry in
+    let h₈ = h .1 .1 .1 .1 .1 .1 .1 .1 in
+    record {
+      place = refl;
+      start = refl;
+      sectors = refl;
+      boot = refl;
+      sys = refl;
+      kept = refl;
+      span = refl;
+      first = address-ok g (placeOf q + q .align) heads c (h .0, (h .1 .0, (h .1 .1 .0, tt)));
+      last = address-ok g (placeOf q + q .align + (sizeOf q - q .align) - 1) heads c
+          (h .1 .1 .1 .1 .1 .0, (h .1 .1 .1 .1 .1 .1 .0, (h .1 .1 .1 .1 .1 .1 .1 .0, tt)));
+      link = address-ok g (placeOf q) heads c h₈;
+      tail = refl;
+    }
+
+pub new-ok : (later : Bool) (q : Request) → Asked q → AllHold (geometryChecks later q) → NewOk later q (newLogical later q)
+unfolding geometryChecks newLogical
+new-ok later q k h = go (complete (q .geometry)) refl h
+  where
+    go : (b : Bool) → complete (q .geometry) ≡ b → AllHold (pick b (updateChecks (q .geometry) (fresh later q)) [])
+        → NewOk later q (pick b (addressed (q .geometry) (fresh later q)) (fresh later q))
+    go true c h = with-address later q (k .heads) c h
+    go false c h = unaddressed later q
+
+-- what the other refusals leave known
+pub record Fits (q : Request) (e : MBRPartitionEntry) : Type 0 where
+  pub align : 0 < q .align
+  pub size : 2 * q .align ≤ sizeOf q
+  pub low : e .«starting_lba» ≤ placeOf q
+  pub high : placeOf q + sizeOf q ≤ endOf e
+  pub used : used (q .sys) ≡ true
+  pub plain : extended (q .sys) ≡ false
+
+within : (c : CHS) → ChsOk c → Within c
+within c k = omega arith
+
+if-there : (later : Bool) (m : MaybeChs) → TailOk later m → IfThere m
+if-there true m t = subst IfThere (sym (t .1)) (within (t .0) (t .2))
+if-there false m t = subst IfThere (sym t) tt
+
+not-plain : (k : ℕ) → extended k ≡ false → extended k ≡ true → ⊥
+not-plain k p q = let w : _≡_ {A = Bool} true false = cc in let z : _≡_ {A = ℕ} 0 1 = cc in omega arith
+
+module _ (later : Bool) (q : Request) (e : MBRPartitionEntry) (l : LogicalPartition) (asked : Asked q) (f : Fits q e) (o : NewOk later q l) where
+  end-new : end l ≡ placeOf q + sizeOf q
+  unfolding end
+  end-new = omega (arith, o .start, o .sectors, f .size, f .align)
+
+  pub new-good : Good (endOf e) l none
+  new-good = record {
+    own = record {
+      flag = inl (o .boot);
+      chs = ((within (l .partition .«first_chs») (o .first), within (l .partition .«last_chs») (o .last)), (within (l .«ebr_first_chs») (o .link), if-there later (l .«ebr_last_chs») (o .tail)));
+      used = ap used (o .sys) ∙ f .used;
+      plain = λ x. not-plain (q .sys) (f .plain) (ap extended (sym (o .sys)) ∙ x);
+    };
+    place = record { after = omega (arith, o .place, o .start, f .align); size = omega (arith, o .sectors, f .size, f .align) };
+    ends = omega (arith, end-new, f .high);
+    linked = tt;
+  }
+
+  pub new-writable : Writable l
+  new-writable = record { kept = subst KeptOk (sym (o .kept)) no-kept-ok; sys = omega (arith, o .sys, asked .sys); first = o .first; last = o .last }
+
+-- of a later one
+module _ (q : Request) (e : MBRPartitionEntry) (l : LogicalPartition) (asked : Asked q) (f : Fits q e) (o : NewOk true q l) where
+  pub new-span : Span (endOf e) l
+  new-span = record {
+    span = sizeOf q;
+    sectors = o .span;
+    size = omega (arith, f .size, f .align);
+    ends = omega (arith, o .place, f .high);
+    covers = omega (arith, end-new true q e l asked f o, o .place);
+  }
+
+  pub new-linkable : Linkable l
+  new-linkable = record { tail = o .tail .0; last = o .tail .1; first-ok = o .link; last-ok = o .tail .2 }

@@ -1,0 +1,3 @@
+pub mod Is
+pub mod Test
+pub mod Good

@@ -3,3 +3,4 @@ pub mod Bytes
 pub mod Put
 pub mod Said
 pub mod Checks
+pub mod Row

@@ -53,6 +53,10 @@ extended sys = among sys extendedTypes
 abbrev pub active : MBRPartitionEntry → Bool
 active e = eqb (e .boot) 128
 
+-- the sector behind its last
+abbrev pub endOf : MBRPartitionEntry → ℕ
+endOf e = e .«starting_lba» + e .sectors
+
 -- an entry that 16 bytes can hold
 pub record EntryOk (e : MBRPartitionEntry) : Type 0 where
   pub boot : e .boot < 256

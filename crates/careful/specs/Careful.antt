@@ -1,0 +1,103 @@
+-- Careful push and careful removal on a disk: refusals in their order, else the stores and the table after. Assumes nothing.
+use Prim.Native.Nat.{ℕ, _+_, _-_}
+use mathlib.Core.Bool.{Bool, true, false, not, _&&_}
+use mathlib.Core.Option.{Option, none, some, Option·getD}
+use mathlib.Core.List.{List, [], _∷_, _++_}
+use lib.Dec.{ltb, leb}
+use lib.ListN.{length}
+use Rattle.base.specs.Said.{Said, gives, refuses, andThen}
+use Rattle.base.specs.Checks.{Check, _!_, checked, answer}
+use Rattle.entry.specs.declared.MBRPartitionEntry.{MBRPartitionEntry}
+use Rattle.entry.specs.Entry.{noEntry, used, extended}
+use Rattle.extract.specs.Disk.{Disk, Store}
+use Rattle.extract.specs.Extract.{diskOf}
+use Rattle.extract.specs.Answers.{checkSays}
+use Rattle.table.specs.declared.LogicalPartition.{LogicalPartition}
+use Rattle.read.specs.Read.{Table, read}
+use Rattle.push.specs.declared.Geometry.{Geometry}
+use Rattle.push.specs.Push.{Request, placeOf, sizeOf, laterThan, newLogical, pushChecks, pushed}
+use Rattle.push.specs.Remove.{removeChecks, without}
+use Rattle.sound.specs.Sound.{Contents, extendedIn, areaEnd, end, soundb}
+use Rattle.careful.specs.Stores.{firstPlace, lastOf, pushStores, removeStore}
+
+-- what is read, but for the alignment, which no disk holds
+abbrev pub contents : Table → Contents
+contents t = record { width = t .width; size = t .size; header = t .header; logicals = t .logicals }
+
+-- the table with other logical partitions
+unfoldable pub relist : Contents → List LogicalPartition → Contents
+relist t ls = record { width = t .width; size = t .size; header = t .header; logicals = ls }
+
+-- the extended entry
+abbrev pub areaOf : Contents → MBRPartitionEntry
+areaOf t = Option·getD (extendedIn t) noEntry
+
+-- what a careful change yields: stores in their order, and the table after them
+pub record Change : Type 0 where
+  pub stores : List Store
+  pub result : Contents
+
+-- the lent output holds two stores
+abbrev pub roomNeeded : ℕ
+roomNeeded = 1032
+
+-- a geometry that would be complete but for more than 63 sectors
+unfoldable pub tooWide : Geometry → Bool
+tooWide g = ltb 0 (g .cylinders) && leb (g .cylinders) 1023 && ltb 0 (g .heads) && ltb 63 (g .sectors)
+
+-- type 0, extended, or a complete geometry of more than 63 sectors: 23
+unfoldable pub askChecks : Request → List Check
+askChecks q = (23 ! used (q .sys)) ∷ (23 ! not (extended (q .sys))) ∷ (23 ! not (tooWide (q .geometry))) ∷ []
+
+-- where the last partition ends
+unfoldable pub lastEnd : List LogicalPartition → ℕ
+lastEnd [] = 0
+lastEnd (l ∷ ls) = end (lastOf l ls)
+
+-- ends by the extended end, for a first one too: 12; starts at or after the last partition's end: 21
+unfoldable pub spaceChecks : Request → Contents → List Check
+spaceChecks q t = (12 ! leb (placeOf q + sizeOf q) (areaEnd (extendedIn t))) ∷ (21 ! leb (lastEnd (t .logicals)) (placeOf q)) ∷ []
+
+-- the refusals of a careful push, after reading's: 20, 23, all of push, 12, 21, 19
+unfoldable pub pushRefusals : ℕ → Request → Contents → List Check
+pushRefusals room q t =
+    (20 ! soundb t)
+    ∷ askChecks q
+    ++ pushChecks q (extendedIn t) (length (t .logicals))
+    ++ spaceChecks q t
+    ++ (19 ! leb roomNeeded room)
+    ∷ []
+
+-- the crate's push under the first-place rule
+unfoldable pub pushChange : Request → Contents → Change
+pushChange q t =
+    record {
+      stores = pushStores (areaOf t) (t .logicals) (newLogical (laterThan (length (t .logicals))) q);
+      result = relist t (firstPlace (areaOf t) (pushed q (t .logicals)));
+    }
+
+-- those of a careful removal, after reading's: 20, 17, 19
+unfoldable pub removeRefusals : ℕ → ℕ → Contents → List Check
+removeRefusals room n t = (20 ! soundb t) ∷ removeChecks n (length (t .logicals)) ++ (19 ! leb roomNeeded room) ∷ []
+
+-- the crate's removal under the first-place rule
+unfoldable pub removeChange : ℕ → Contents → Change
+removeChange n t =
+    record {
+      stores = removeStore (areaOf t) (t .logicals) (n - 5) ∷ [];
+      result = relist t (firstPlace (areaOf t) (without (t .logicals) (n - 5)));
+    }
+
+-- careful push and careful removal on a disk, with so much room lent for the stores
+unfoldable pub carefulPush : Disk → ℕ → Request → Said Change
+carefulPush d room q = andThen (read d) (λ t. answer (pushRefusals room q (contents t)) (pushChange q (contents t)))
+
+unfoldable pub carefulRemove : Disk → ℕ → ℕ → Said Change
+carefulRemove d room n = andThen (read d) (λ t. answer (removeRefusals room n (contents t)) (removeChange n (contents t)))
+
+-- and on an extract
+unfoldable pub carefulPushSays : List ℕ → ℕ → Request → Said Change
+carefulPushSays x room q = andThen (checkSays x) (λ e. carefulPush (diskOf x) room q)
+
+unfoldable pub carefulRemoveSays : List ℕ → ℕ → ℕ → Said Change
+carefulRemoveSays x room n = andThen (checkSays x) (λ e. carefulRemove (diskOf x) room n)

@@ -1,0 +1,3 @@
+pub mod Stores
+pub mod Careful
+pub mod Demand3

@@ -1,0 +1,1 @@
+// Careful changes: the drive may be pulled at any moment.

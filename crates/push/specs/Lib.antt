@@ -1,0 +1,3 @@
+pub mod Address
+pub mod Push
+pub mod Remove

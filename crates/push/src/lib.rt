@@ -1,0 +1,8 @@
+// One more logical partition, one less, and the addresses of one.
+
+// A disk's cylinders, heads and sectors in a track.
+pub struct Geometry {
+    pub cylinders: u16,
+    pub heads: u8,
+    pub sectors: u8,
+}

@@ -1,0 +1,405 @@
+"""Writes the fixed list of cases: python3 cases.py > cases
+
+Hand-written limits first, then seeded ones; the list is the same at every run.
+"""
+import model as m
+from model import CHS, Entry
+
+BIG = 0xFFFFFFFF
+lines = []
+
+
+class Seeded:
+    """Numbers that are the same on every machine."""
+
+    def __init__(self, seed):
+        self.state = seed
+
+    def below(self, n):
+        self.state = (self.state * 6364136223846793005 + 1442695040888963407) % 2 ** 64
+        return (self.state >> 20) % n
+
+    def between(self, low, high):
+        return low + self.below(high - low + 1)
+
+    def of(self, choices):
+        return choices[self.below(len(choices))]
+
+    def bytes(self, n):
+        return bytes(self.below(256) for _ in range(n))
+
+
+def case(*words):
+    lines.append(" ".join(w.hex() if isinstance(w, bytes) else str(w) for w in words))
+
+
+def note(text):
+    lines.append("# " + text)
+
+
+def words_of(e):
+    return (e.boot, e.first_chs.cylinder, e.first_chs.head, e.first_chs.sector, e.sys,
+            e.last_chs.cylinder, e.last_chs.head, e.last_chs.sector, e.starting_lba, e.sectors)
+
+
+def lend(record):
+    """X becomes these bytes; runs of zeros are left out of the file."""
+    case("x", len(record))
+    at = 0
+    for piece in bytes(record).split(bytes(8)):
+        if piece.strip(b"\0"):
+            case("xp", at, piece)
+        at += len(piece) + 8
+
+
+def part(sys, start, sectors, boot=0):
+    return Entry(boot, m.NO_CHS, sys, m.NO_CHS, start, sectors)
+
+
+def seeded_chs(rng, narrow):
+    if narrow:
+        return CHS(rng.below(1024), rng.below(256), rng.below(64))
+    return CHS(rng.below(65536), rng.below(256), rng.below(256))
+
+
+def seeded_entry(rng, narrow=True, flags=(0, 0x80)):
+    return Entry(rng.of(flags), seeded_chs(rng, narrow), rng.below(256), seeded_chs(rng, narrow),
+                 rng.below(BIG + 1), rng.below(BIG + 1))
+
+
+# ---------------------------------------------------------------- CHS
+
+
+def chs_cases():
+    note("CHS: the numbers to hold")
+    for chs in ((0, 32, 33), (514, 3, 5), (1023, 254, 63)):
+        case("chs_to_bytes", *chs)
+    for text in ("202100", "038502", "feffff"):
+        case("chs_of_bytes", text)
+    for lba in (2048, 16450559, 16450560):
+        case("chs_exact", lba, 1023, 255, 63)
+    case("chs_is_valid", 1023, 254, 63, 1023, 255, 63)
+    case("chs_exact", 60, 10, 2, 3)
+    case("chs_exact", 66, 10, 2, 3)
+    case("chs_aligned", 6, 10, 2, 3)
+    case("chs_aligned", 7, 10, 2, 3)
+    case("chs_aligned", 0, 10, 2, 3)
+    case("chs_to_lba", 0, 0, 0, 255, 63)
+
+    note("CHS: made and empty")
+    for chs in ((0, 0, 0), (1, 2, 3), (1023, 254, 63), (1024, 255, 64), (65535, 255, 255)):
+        case("chs_new", *chs)
+    case("chs_empty")
+    for chs in ((0, 0, 0), (1, 0, 0), (0, 1, 0), (0, 0, 1), (256, 0, 0), (65535, 255, 255)):
+        case("chs_is_empty", *chs)
+
+    note("CHS: exact, limits and the order 7, 13, 14")
+    for lba in (0, 1, 5, 6, 59, 61, 65, 67, BIG - 1, BIG):
+        case("chs_exact", lba, 10, 2, 3)
+    for lba in (0, 62, 63, 16064, 16065, 16434494, 16434495, BIG):
+        case("chs_exact", lba, 1023, 255, 63)
+    for lba in (1023, 1024, 1025):
+        for cylinders in (0, 1022, 1023, 1024, 65535):
+            case("chs_exact", lba, cylinders, 1, 1)
+    for geometry in ((0, 0, 0), (10, 0, 3), (10, 2, 0), (65535, 0, 255), (65535, 255, 0)):
+        case("chs_exact", 0, *geometry)
+        case("chs_exact", BIG, *geometry)
+    for lba in (0, 65024, 65025, 66585599, 66585600, BIG):
+        case("chs_exact", lba, 65535, 255, 255)
+    case("chs_exact", 1, 0, 1, 1)
+    case("chs_exact", 0, 0, 1, 1)
+
+    note("CHS: aligned, limits and the order 7, 13, 14")
+    for lba in (1, 5, 12, 13, 60, 61, 66, BIG):
+        case("chs_aligned", lba, 10, 2, 3)
+    for lba in (1, 1022, 1023, 1024, BIG):
+        for cylinders in (0, 1022, 1023, 65535):
+            case("chs_aligned", lba, cylinders, 1, 1)
+    for lba in (0, 1):
+        for geometry in ((0, 0, 0), (10, 0, 3), (10, 2, 0), (0, 2, 3)):
+            case("chs_aligned", lba, *geometry)
+    for lba in (16450560, 16434495, 16434496, BIG):
+        case("chs_aligned", lba, 1023, 255, 63)
+    for lba in (66520575, 66520576, BIG):
+        case("chs_aligned", lba, 1023, 255, 255)
+
+    note("CHS: back to a sector")
+    for words in ((0, 0, 1, 255, 63), (0, 32, 33, 255, 63), (1023, 254, 63, 255, 63), (65535, 255, 255, 255, 255),
+                  (9, 0, 0, 0, 63), (9, 5, 0, 255, 0), (9, 5, 1, 255, 0), (0, 1, 0, 255, 63), (0, 1, 0, 255, 0),
+                  (1, 0, 0, 1, 1), (1, 0, 0, 255, 63), (0, 0, 255, 0, 0), (65535, 0, 0, 255, 255),
+                  (65535, 255, 0, 0, 255), (10, 0, 1, 2, 3), (10, 1, 3, 2, 3)):
+        case("chs_to_lba", *words)
+
+    note("CHS: valid for a geometry")
+    for words in ((0, 0, 1, 1, 1, 1), (0, 0, 0, 1, 1, 1), (0, 0, 2, 1, 1, 1), (0, 1, 1, 1, 1, 1), (1, 0, 1, 1, 1, 1),
+                  (1022, 254, 63, 1023, 255, 63), (1022, 255, 63, 1023, 255, 63), (1022, 254, 64, 1023, 255, 63),
+                  (0, 0, 1, 0, 1, 1), (0, 0, 1, 1, 0, 1), (0, 0, 1, 1, 1, 0), (65534, 254, 255, 65535, 255, 255),
+                  (65535, 254, 255, 65535, 255, 255), (0, 255, 1, 1, 255, 1)):
+        case("chs_is_valid", *words)
+
+    note("CHS: the three bytes; higher bits are dropped")
+    for chs in ((0, 0, 0), (255, 255, 63), (256, 0, 0), (511, 1, 1), (512, 1, 1), (768, 1, 1), (1024, 1, 64),
+                (1023, 0, 64), (1280, 9, 65), (65535, 255, 255), (65280, 128, 192), (0, 0, 63), (0, 0, 128)):
+        case("chs_to_bytes", *chs)
+    for text in ("000000", "ffffff", "ff0000", "00ff00", "0000ff", "004000", "008000", "00c000", "003f00", "7fbf80"):
+        case("chs_of_bytes", text)
+
+    note("CHS: seeded")
+    rng = Seeded(101)
+    for _ in range(10):
+        heads, sectors = rng.between(1, 255), rng.between(1, 255)
+        cylinders = rng.of((rng.below(1024), rng.below(65536)))
+        lba = rng.below(heads * sectors * 1100)
+        case("chs_exact", lba, cylinders, heads, sectors)
+        case("chs_aligned", lba, cylinders, heads, sectors)
+    for _ in range(8):
+        chs = seeded_chs(rng, False)
+        words = (chs.cylinder, chs.head, chs.sector)
+        case("chs_to_bytes", *words)
+        case("chs_to_lba", *words, rng.below(256), rng.below(256))
+        case("chs_is_valid", *words, rng.below(65536), rng.below(256), rng.below(256))
+        case("chs_of_bytes", rng.bytes(3))
+
+
+# ---------------------------------------------------------------- entries
+
+
+def entry_cases():
+    note("entries: used, unused, extended, active")
+    case("entry_boot")
+    case("entry_empty")
+    kinds = {0, 1, 0x83, 0xEE, 0xFF}
+    for kind in m.EXTENDED_TYPES:
+        kinds |= {kind, kind - 1, kind + 1} | {kind ^ 1 << bit for bit in range(8)}
+    for kind in sorted(kinds):
+        case("entry_is", *words_of(part(kind, 0, 0)))
+    for boot in (1, 0x7F, 0x80, 0x81, 0xFF):
+        case("entry_is", *words_of(part(0x83, 2048, 2048, boot)))
+    case("entry_is", *words_of(part(0, BIG, BIG, 0x80)))
+    case("entry_is", 0, 65535, 255, 255, 0, 65535, 255, 255, BIG, BIG)
+
+
+# ---------------------------------------------------------------- the MBR record
+
+
+def header_of(*entries, code=bytes(440), disk=bytes(4), copy=bytes(2), sign=m.SIGNATURE):
+    return m.Header(code, disk, copy, tuple(entries) + (m.NO_ENTRY,) * (4 - len(entries)), sign)
+
+
+def take_header(h):
+    """H becomes this header, field by field."""
+    case("h", h.disk_signature)
+    if h.bootstrap_code.strip(b"\0"):
+        case("hc", 0, h.bootstrap_code.rstrip(b"\0"))
+    if h.copy_protected != bytes(2):
+        case("hm", h.copy_protected)
+    for number, entry in enumerate(h.entries, 1):
+        if entry != m.NO_ENTRY:
+            case("he", number, *words_of(entry))
+    if h.boot_signature != m.SIGNATURE:
+        case("hs", h.boot_signature)
+
+
+DISK_K = header_of(part(0x05, 4096, 16384))
+
+
+def mbr_cases():
+    note("MBR: new, numbers, copy mark")
+    for disk in ("00000000", "01020304", "ffffffff"):
+        case("h", disk)
+        case("mbr_show")
+    for number in (1, 2, 3, 4):
+        case("he", number, *words_of(part(number, number * 1000, number * 100)))
+    for number in (0, 1, 2, 3, 4, 5, 6, 255, 256, 257, BIG, BIG + 2, 10 ** 17 + 1):
+        case("mbr_get", number)
+    for mark in ("0000", "5a5a", "5a00", "005a", "a5a5", "5a5b", "5b5a", "ffff", "0100", "0001"):
+        case("hm", mark)
+        case("mbr_copy")
+
+    note("MBR: read, K's record 0 and the lengths")
+    record = m.header_bytes(DISK_K)
+    lend(record)
+    case("mbr_read")
+    for length in (0, 1, 510, 511, 513, 1024):
+        lend((record + bytes(512))[:length])
+        case("mbr_read")
+
+    note("MBR: read, signature before flags, length before both")
+    case("x", 512)
+    case("mbr_read")
+    for sign in ("55aa", "aa55", "5500", "00aa", "55ab", "54aa", "ffff"):
+        case("xp", 510, sign)
+        case("mbr_read")
+    case("xp", 446, "01")
+    case("mbr_read")
+    case("xp", 510, "55aa")
+    case("mbr_read")
+    case("x", 511)
+    case("xp", 446, "01")
+    case("mbr_read")
+    case("x", 512)
+    case("xp", 510, "55aa")
+    for at in (446, 462, 478, 494):
+        for flag in ("01", "7f", "81", "ff", "80"):
+            case("xp", at, flag)
+            case("mbr_read")
+    case("hx")
+    case("mbr_show")
+    case("xp", 494, "08")
+    case("hx")
+    case("mbr_show")
+
+    note("MBR: each field in its place")
+    case("x", 512)
+    case("xp", 510, "55aa")
+    for at, text in ((0, "07"), (439, "07"), (440, "01"), (443, "02"), (444, "03"), (445, "04"), (447, "ffffff"),
+                     (450, "83"), (451, "010203"), (454, "01020304"), (458, "05060708"), (461, "ff"), (463, "11"),
+                     (509, "80")):
+        case("xp", at, text)
+        case("mbr_read")
+
+    note("MBR: written, the lengths and the order 3, 4, 19")
+    take_header(DISK_K)
+    for length in (512, 513, 600, 511, 0):
+        case("o", length, 238)
+        case("mbr_write")
+    for sign in ("0000", "aa55", "55ab"):
+        case("hs", sign)
+        case("o", 512, 17)
+        case("mbr_write")
+    case("he", 4, *words_of(part(0, 0, 0, 1)))
+    case("mbr_write")
+    case("o", 10, 17)
+    case("mbr_write")
+    case("hs", m.SIGNATURE)
+    case("mbr_write")
+    for number in (1, 2, 3, 4):
+        for flag in (0x7F, 0x81):
+            take_header(DISK_K)
+            case("he", number, *words_of(part(0x83, 1, 1, flag)))
+            case("o", 512, 9)
+            case("mbr_write")
+    take_header(header_of(part(0x83, 1, 1, 0x80), part(0x83, 2, 1, 0x80)))
+    case("mbr_write")
+
+    note("MBR: seeded, read and written again")
+    rng = Seeded(202)
+    for _ in range(8):
+        h = header_of(*(seeded_entry(rng) for _ in range(4)), code=rng.bytes(440), disk=rng.bytes(4),
+                      copy=rng.bytes(2))
+        lend(m.header_bytes(h))
+        case("mbr_read")
+        case("hx")
+        case("o", 520, 170)
+        case("mbr_write")
+    for _ in range(6):
+        h = header_of(*(seeded_entry(rng, narrow=False) for _ in range(4)), code=rng.bytes(40) + bytes(400),
+                      disk=rng.bytes(4), copy=rng.bytes(2))
+        take_header(h)
+        case("mbr_show")
+        case("o", 512, 1)
+        case("mbr_write")
+
+
+# ---------------------------------------------------------------- the EBR
+
+
+def take_ebr(ebr):
+    case("e")
+    if ebr.bootstrap_code.strip(b"\0"):
+        case("ec", 0, ebr.bootstrap_code.rstrip(b"\0"))
+    if ebr.partition != m.NO_ENTRY:
+        case("e1", *words_of(ebr.partition))
+    if ebr.link != m.NO_ENTRY:
+        case("e2", *words_of(ebr.link))
+
+
+FIRST_OF_K = m.EBR(bytes(446), part(0x83, 2048, 2048), m.NO_ENTRY)
+LINKED = m.EBR(bytes(446), part(0x83, 2048, 2048), part(0x05, 4096, 4096))
+
+
+def ebr_cases():
+    note("EBR: read, K's record 4,096 and the lengths")
+    record = m.ebr_bytes(FIRST_OF_K)
+    lend(record)
+    case("ebr_read")
+    for length in (0, 1, 511, 513):
+        lend((record + bytes(512))[:length])
+        case("ebr_read")
+
+    note("EBR: read, signature before flags, length before both")
+    case("x", 512)
+    case("ebr_read")
+    for sign in ("55aa", "aa55", "5500", "00aa", "54aa"):
+        case("xp", 510, sign)
+        case("ebr_read")
+    case("xp", 462, "01")
+    case("ebr_read")
+    case("xp", 510, "55aa")
+    case("ebr_read")
+    case("x", 513)
+    case("xp", 446, "01")
+    case("ebr_read")
+    case("x", 512)
+    case("xp", 510, "55aa")
+    for at in (446, 462):
+        for flag in ("01", "7f", "81", "ff", "80"):
+            case("xp", at, flag)
+            case("ebr_read")
+
+    note("EBR: the 32 further bytes are not looked at, and written as zeros")
+    case("xp", 478, "ff" * 32)
+    case("ebr_read")
+    case("ex")
+    case("o", 515, 51)
+    case("ebr_write")
+
+    note("EBR: each field in its place")
+    case("x", 512)
+    case("xp", 510, "55aa")
+    for at, text in ((0, "07"), (445, "07"), (447, "ffffff"), (450, "05"), (451, "010203"), (454, "01020304"),
+                     (458, "05060708"), (463, "feffff"), (466, "0f"), (467, "038502"), (470, "11121314"),
+                     (474, "21222324"), (477, "ff")):
+        case("xp", at, text)
+        case("ebr_read")
+
+    note("EBR: written, the lengths and the order 4, 19")
+    for ebr in (FIRST_OF_K, LINKED):
+        take_ebr(ebr)
+        case("ebr_show")
+        for length in (512, 513, 511, 0):
+            case("o", length, 204)
+            case("ebr_write")
+    for flag in (1, 0x7F, 0x81, 0xFF):
+        for which in ("e1", "e2"):
+            take_ebr(LINKED)
+            case(which, *words_of(part(0x83, 1, 1, flag)))
+            case("o", 512, 3)
+            case("ebr_write")
+    case("o", 511, 3)
+    case("ebr_write")
+    take_ebr(m.EBR(bytes(446), part(0x83, 1, 1, 0x80), part(0x05, 1, 1, 0x80)))
+    case("o", 512, 255)
+    case("ebr_write")
+
+    note("EBR: seeded, read and written again")
+    rng = Seeded(303)
+    for _ in range(8):
+        record = bytearray(m.ebr_bytes(m.EBR(rng.bytes(446), seeded_entry(rng), seeded_entry(rng))))
+        record[478:510] = rng.bytes(32)
+        lend(record)
+        case("ebr_read")
+        case("ex")
+        case("o", 512, 102)
+        case("ebr_write")
+    for _ in range(6):
+        take_ebr(m.EBR(rng.bytes(30) + bytes(416), seeded_entry(rng, narrow=False), seeded_entry(rng, narrow=False)))
+        case("ebr_show")
+        case("o", 530, 1)
+        case("ebr_write")
+
+
+if __name__ == "__main__":
+    for section in (chs_cases, entry_cases, mbr_cases, ebr_cases):
+        section()
+    print("\n".join(lines))

@@ -1,0 +1,416 @@
+"""Holds model.py to the numbers of document 01 and to what the document says of any disk."""
+import random
+from dataclasses import replace
+
+import model as m
+from model import CHS, Entry, Geometry, Refusal, Run
+
+count = 0
+
+
+def same(got, want):
+    global count
+    count += 1
+    if got != want:
+        raise AssertionError(f"check {count}: got {repr(got)[:300]}, want {repr(want)[:300]}")
+
+
+def refused(number, f, *args):
+    try:
+        got = f(*args)
+    except Refusal as r:
+        same(r.number, number)
+    else:
+        same(("no refusal", got), number)
+
+
+def answer(f, *args):
+    """The answer, or the refusal's number, to be compared as one value."""
+    try:
+        return ("done", f(*args))
+    except Refusal as r:
+        return ("refused", r.number)
+
+
+def header(*entries, code=bytes(440)):
+    entries = tuple(entries) + (m.NO_ENTRY,) * (4 - len(entries))
+    return m.Header(code, bytes(4), bytes(2), entries, m.SIGNATURE)
+
+
+def part(sys, start, sectors, boot=0):
+    return Entry(boot, m.NO_CHS, sys, m.NO_CHS, start, sectors)
+
+
+def extract(disk_size, records, sector_size=512):
+    return m.extract_bytes(m.Disk(sector_size, disk_size, dict(records)))
+
+
+def table(disk_size, align, *entries, logicals=()):
+    return m.Table(512, header(*entries), tuple(logicals), align, 0, 0, 0, disk_size)
+
+
+def disk_k():
+    first = m.ebr_bytes(m.EBR(bytes(446), part(0x83, 2048, 2048), m.NO_ENTRY))
+    return extract(20480, {0: m.header_bytes(header(part(0x05, 4096, 16384))), 4096: first})
+
+
+def after_stores(x, stores):
+    disk = m.extract_disk(x)
+    for lba, record in stores:
+        disk.records[lba] = record
+    return disk
+
+
+def chs_numbers():
+    for chs, text in ((CHS(0, 32, 33), "202100"), (CHS(514, 3, 5), "038502"), (CHS(1023, 254, 63), "feffff")):
+        same(m.chs_bytes(chs).hex(), text)
+        same(m.chs_of_bytes(bytes.fromhex(text)), chs)
+    same(m.chs_bytes(CHS(65535, 255, 255)).hex(), "ffffff")
+    same(m.chs_bytes(CHS(1024, 1, 64)).hex(), "010000")
+    big = (1023, 255, 63)
+    same(m.from_lba_exact(2048, *big), CHS(0, 32, 33))
+    same(m.from_lba_exact(16450559, *big), CHS(1023, 254, 63))
+    same(m.chs_is_valid(CHS(1023, 254, 63), *big), False)
+    refused(13, m.from_lba_exact, 16450560, *big)
+    same(m.from_lba_exact(60, 10, 2, 3), CHS(10, 0, 1))
+    refused(14, m.from_lba_exact, 66, 10, 2, 3)
+    same(m.from_lba_aligned(6, 10, 2, 3).cylinder, 1)
+    same(m.from_lba_aligned(7, 10, 2, 3).cylinder, 2)
+    refused(7, m.from_lba_aligned, 0, 10, 2, 3)
+    for f in (m.from_lba_exact, m.from_lba_aligned):
+        refused(7, f, 5, 10, 0, 3)
+        refused(7, f, 5, 10, 2, 0)
+    refused(7, m.to_lba, CHS(0, 0, 0), 255, 63)
+    refused(7, m.to_lba, CHS(9, 0, 0), 0, 63)
+    same(m.to_lba(CHS(65535, 255, 255), 255, 255), 4261478654)
+    for lba in range(66):
+        same(m.to_lba(m.from_lba_exact(lba, 10, 2, 3), 2, 3), lba)
+
+
+def alignment_numbers():
+    for starts, align in (([63], 63), ([32768], 16384), ([0, 63], 63), ([1], 1), ([], 2048), ([1, 1], 1),
+                          ([2048, 6144], 2048), ([16384 * 3, 16384 * 5], 16384), ([2, 3], 1)):
+        same(m.find_alignment(starts), align)
+    refused(7, m.find_alignment, [0])
+    refused(7, m.find_alignment, [0, 0])
+
+
+def free_numbers():
+    t = table(10000, 2048, part(0x83, 2048, 2048))
+    same(m.free_runs(t), [Run(4096, 5904)])
+    same(m.find_last_place(t, 1000), 8192)
+    same(m.find_first_place(t, 5905), None)
+    same(m.find_first_place(t, 5904), 4096)
+    t = table(100, 1, part(0x83, 50, 100))
+    same(m.free_runs(t), [Run(1, 49), Run(101, 48)])
+    refused(7, m.free_runs, table(0, 1))
+    refused(7, m.free_runs, table(100, 0))
+    refused(19, m.free_runs_into, table(100, 1), 29)
+    refused(7, m.free_runs_into, table(0, 1), 29)
+    # the examples of the crate's own pages
+    same(m.free_runs(table(100, 1, part(0x83, 6, 89))), [Run(1, 5), Run(95, 5)])
+    same(m.find_first_place(table(100, 1, part(0x83, 6, 94)), 5), 1)
+    same(m.find_last_place(table(100, 1, part(0x83, 6, 5)), 5), 95)
+    same(m.find_optimal_place(table(100, 1, part(0x83, 11, 84)), 5), 95)
+    same(m.get_maximum_partition_size(table(100, 1)), 99)
+    # start 1 and last sector 1 lie among the positions, so the run after it starts at 2
+    same(m.get_maximum_partition_size_for(table(100, 1, part(0x83, 1, 1)), 1), 99)
+    refused(15, m.get_maximum_partition_size_for, table(100, 1), 5)
+    refused(16, m.get_maximum_partition_size, table(100, 128))
+
+
+def disk_k_numbers():
+    x = disk_k()
+    same(len(x), 1056)
+    same(m.listing(x), "disk 20480 align 2048 logical 1\n1 05 00 4096 16384\n5 83 00 6144 2048\n")
+    t = m.read_table(x)
+    same(m.free_runs(t), [Run(2048, 2048), Run(6144, 4096), Run(12288, 8192)])
+    same(m.broken_rules(t), [])
+    same(m.wanted(x), None)
+
+    def push(start, sectors, lent=1032):
+        return m.careful_push(x, 2048, Geometry(0, 0, 0), 0x83, start, sectors, bytearray(lent))
+
+    for start in (8192, 8191):
+        same([lba for lba, _ in push(start, 4096).stores], [8192, 4096])
+    same(push(8191, 4096).stores, push(8192, 4096).stores)
+    same(push(16384, 4096).table.logicals[1].partition.starting_lba, 18432)
+    for number, start, sectors in ((12, 16384, 4097), (11, 16385, 4096), (10, 2048, 4096), (21, 6144, 4096),
+                                   (7, 0, 4096), (7, 8192, 0), (9, 8192, 2048)):
+        refused(number, push, start, sectors)
+    same(push(8192, 2049).table.logicals[1].ebr_sectors, 4096)
+    refused(19, push, 8192, 4096, 1031)
+    out = bytearray(b"\xee" * 1040)
+    stores = m.careful_push(x, 2048, Geometry(0, 0, 0), 0x83, 8192, 4096, out).stores
+    same(bytes(out), b"".join(m.four(lba) + r for lba, r in stores) + b"\xee" * 8)
+    out = bytearray(b"\xee" * 1032)
+    same(m.careful_removal(x, 5, out).stores, [(4096, bytes(512))])
+    same(bytes(out), m.four(4096) + bytes(512) + b"\xee" * 516)
+    refused(17, m.careful_removal, x, 4, bytearray(0))
+    refused(17, m.careful_removal, x, 6, bytearray(0))
+    refused(19, m.careful_removal, x, 5, bytearray(1031))
+    for sys in (0, 5, 15, 0x85, 0xC5, 0xD5):
+        refused(23, m.careful_push, x, 2048, Geometry(0, 0, 0), sys, 0, 0, bytearray(0))
+    refused(23, m.careful_push, x, 0, Geometry(1, 1, 64), 0x83, 0, 0, bytearray(0))
+    refused(7, m.careful_push, x, 0, Geometry(1024, 1, 64), 0x83, 0, 0, bytearray(0))
+
+
+def extract_rules():
+    x = disk_k()
+    same(answer(m.extract_disk, x)[0], "done")
+    for at, value in ((0, 0), (0, 256), (0, 513), (0, 8192), (8, 65), (8, 1), (12, 25), (16, 33), (20, 1055),
+                      (4, 4096), (4, 0), (24, 4096), (28, 0), (28, 20480)):
+        refused(1, m.extract_disk, x[:at] + m.four(value) + x[at + 4:])
+    refused(1, m.extract_disk, x + b"\0")
+    refused(1, m.extract_disk, x[:-1])
+    refused(1, m.extract_disk, x[:23])
+    same(m.lookup_says(x, 20480), 2)
+    same(m.lookup_says(x, 20479), 0)
+    same(m.lookup_says(x[:23], 20480), 1)
+    same(m.lookup(x, 1), b"")
+    same(m.lookup(x, 20480), b"")
+    same(m.lookup(x, 4096), x[544:])
+    full = extract(1000, {i: bytes(512) for i in range(64)})
+    refused(22, m.lay_over, full, 64, bytes(512), bytearray(0))
+    refused(2, m.lay_over, full, 1000, bytes(512), bytearray(0))
+    refused(1, m.lay_over, full, 1000, bytes(511), bytearray(0))
+    refused(19, m.lay_over, full, 63, bytes(512), bytearray(33047))
+    out = bytearray(b"\x11" * 1600)
+    same(m.lay_over(x, 9, b"\x07" * 512, out), 1572)
+    same(m.lookup(out[:1572], 9), b"\x07" * 512)
+    same(m.lookup(out[:1572], 4096), m.lookup(x, 4096))
+    same(bytes(out[1572:]), b"\x11" * 28)
+
+
+def chain_rules():
+    def chain(ebrs, x=1000, disk_size=100000):
+        records = {0: m.header_bytes(header(part(5, x, 50000)))}
+        for place, partition, link in ebrs:
+            records[place] = m.ebr_bytes(m.EBR(bytes(446), partition, link))
+        return extract(disk_size, records)
+
+    def links(n):
+        return [(1000 + 10 * i, part(0x83, 2, 3), part(5, 10 * (i + 1) if i + 1 < n else 0, 10)) for i in range(n)]
+
+    same(len(m.read_table(chain(links(24))).logicals), 24)
+    refused(6, m.read_table, chain(links(25)))
+    bad = links(25)
+    bad[24] = (1240, part(0x83, 2, 3, boot=1), m.NO_ENTRY)
+    refused(4, m.read_table, chain(bad))
+    same(m.wanted(chain(links(25)[:24])), 1240)
+    same(m.wanted(chain(links(26)[:25])), None)
+    refused(3, m.read_table, chain(links(3)[:2]))
+    same(m.read_table(chain(links(3)[1:])).logicals, ())
+    same(m.wanted(chain([])), 1000)
+    loop = [(1000, part(0x83, 2, 3), part(5, 10, 10)), (1010, part(0x83, 2, 3), part(5, 10, 10))]
+    refused(5, m.read_table, chain(loop))
+    loop[1] = (1010, part(0x83, 0xFFFFFFFF, 3), part(5, 10, 10))
+    refused(7, m.read_table, chain(loop))
+    loop[0] = (1000, part(0, 0xFFFFFFFF, 3), part(5, 10, 10))
+    refused(7, m.read_table, chain(loop))
+    past = [(1000, part(0x83, 2, 3), part(5, 99000, 10))]
+    refused(2, m.read_table, chain(past))
+    same(m.wanted(chain(past)), None)
+    same(m.read_table(chain([], x=100000)).logicals, ())
+    refused(2, m.read_table, extract(0, {}))
+    refused(3, m.read_table, extract(1, {}))
+    same(m.wanted(extract(1, {})), 0)
+    same(m.wanted(extract(0, {})), None)
+    refused(7, m.read_table, extract(1, {0: m.header_bytes(header(part(0x83, 0, 1)))}))
+
+
+def pushes():
+    ext = part(0x0F, 4096, 16384)
+    refused(8, m.push, table(20480, 0), 0x83, 0, 0)
+    refused(7, m.push, table(20480, 0, ext), 0x83, 1, 1)
+    refused(7, m.push, table(20480, 1 << 31, ext), 0x83, 1, 1)
+    refused(9, m.push, table(20480, (1 << 31) - 1, ext), 0x83, 1, 1)
+    refused(7, m.push, table(20480, 2048, ext), 0x83, 0xFFFFF800, 4096)
+    refused(10, m.push, table(20480, 2048, ext), 0x83, 2048, 4096)
+    refused(7, m.push, table(20480, 2048, part(5, 0, 4095)), 0x83, 2048, 4096)
+    refused(11, m.push, table(20480, 2048, part(5, 0, 4096)), 0x83, 2048, 4096)
+    first = m.push(table(20480, 2048, ext), 0x83, 4096, 99999)
+    same(first.number, 5)
+    same(first.table.logicals[0].partition, part(0x83, 6144, 98304))
+    same(first.table.logicals[0].ebr_sectors, None)
+    same(m.push(first.table, 0x83, 8192, 4096).number, 6)
+    crowded = replace(first.table, logicals=first.table.logicals * 24)
+    refused(6, m.push, crowded, 0x83, 8192, 4096)
+    refused(12, m.push, crowded, 0x83, 8192, 99999)
+    refused(6, m.push, replace(crowded, logicals=crowded.logicals + crowded.logicals[:1]), 0x83, 0, 0)
+    shaped = replace(first.table, cylinders=10, heads=255, sectors=63)
+    refused(6, m.push, replace(crowded, cylinders=1023, heads=255, sectors=63), 0x83, 8192, 4096)
+    refused(14, m.push, replace(crowded, cylinders=1, heads=16, sectors=63), 0x83, 8192, 4096)
+    refused(13, m.push, replace(crowded, cylinders=1, heads=1, sectors=8), 0x83, 8192, 4096)
+    same(m.push(shaped, 0x83, 8192, 4096).table.logicals[1].ebr_first_chs, m.from_lba_exact(8192, 10, 255, 63))
+
+
+def lookups():
+    t = m.read_table(disk_k())
+    for sector, number in ((4095, None), (4096, None), (6144, 5), (8191, 5), (8192, None), (20480, None)):
+        same(m.find_at_sector(t, sector), number)
+    refused(15, m.remove_at_sector, t, 4096)
+    same(m.remove_at_sector(t, 6144).logicals, ())
+    far = table(100, 1, part(0x83, 10, 5), part(0x83, 90, 0xFFFFFFFF))
+    same(m.find_at_sector(far, 12), 1)
+    same(m.find_at_sector(far, 89), None)
+    refused(7, m.find_at_sector, far, 90)
+    same(m.remove_at_sector(far, 12).header.entries[0], m.NO_ENTRY)
+    refused(17, m.remove, t, 4)
+    refused(17, m.remove, t, 6)
+    same(m.remove(t, 5).partition, t.logicals[0])
+    same(m.table_len(t), 5)
+    same([m.table_get(t, i) is None for i in range(7)], [True, False, False, False, False, False, True])
+    same(m.update_from(t, extract(7, {}, 4096)).sector_size, 4096)
+    same(m.new_from(extract(0, {}), b"abcd").disk_size, 0)
+    same(m.check_geometry(replace(t, cylinders=1023, heads=1, sectors=63)), True)
+    same(m.check_geometry(replace(t, cylinders=1024, heads=1, sectors=63)), False)
+    same(m.get_cylinder_size(replace(t, heads=255, sectors=255)), 65025)
+
+
+def writing():
+    x = disk_k()
+    t = m.read_table(x)
+    out = bytearray(b"\x33" * 1060)
+    same(m.write_table(t, x, out), m.Written(t, 1056))
+    same(bytes(out), x + b"\x33" * 4)
+    blank = extract(20480, {})
+    same(m.write_table(t, blank, bytearray(1056)).length, 1056)
+    refused(19, m.write_table, t, blank, bytearray(1055))
+    refused(2, m.write_table, t, extract(0, {}), bytearray(0))
+    refused(2, m.write_table, t, extract(4096, {}), bytearray(0))
+    refused(1, m.write_table, t, blank[:-1], bytearray(0))
+    bad = replace(t, header=replace(t.header, boot_signature=b"\0\0"))
+    refused(3, m.write_table, bad, extract(0, {}), bytearray(0))
+    refused(3, m.write_header_only, bad.header, extract(0, {}), bytearray(0))
+    refused(2, m.write_header_only, t.header, extract(0, {}), bytearray(0))
+    second = replace(t.logicals[0], absolute_ebr_lba=8192)
+    two = replace(t, logicals=(t.logicals[0], second))
+    refused(18, m.write_table, two, blank, bytearray(0))
+    one = replace(t, logicals=(replace(t.logicals[0], partition=part(0x83, 6144, 2048, boot=1)), second))
+    refused(4, m.write_table, one, blank, bytearray(0))
+    linked = replace(second, ebr_sectors=4096)
+    refused(18, m.write_table, replace(two, logicals=(t.logicals[0], linked)), blank, bytearray(0))
+    shaped = replace(two, logicals=(t.logicals[0], linked), cylinders=1023, heads=255, sectors=63)
+    same(m.write_table(shaped, blank, bytearray(9999)).table.logicals[1].ebr_last_chs,
+         m.from_lba_exact(12287, 1023, 255, 63))
+    crowded = extract(20480, {i + 1: bytes(512) for i in range(63)})
+    refused(22, m.write_table, t, crowded, bytearray(0))
+    loose = replace(t, header=header())
+    same(m.write_table(loose, blank, bytearray(540)), m.Written(loose, 540))
+
+
+def soundness():
+    t = m.read_table(disk_k())
+    first = t.logicals[0]
+
+    def broken(rule, **changes):
+        same((m.broken_rules(replace(t, **changes)) or ["none"])[0], rule)
+
+    def with_first(rule, **changes):
+        broken(rule, logicals=(replace(first, **changes),))
+
+    def with_second(rule, **changes):
+        two = replace(first, partition=part(0x83, 10240, 2048), absolute_ebr_lba=8192, ebr_sectors=4096,
+                      ebr_last_chs=m.NO_CHS)
+        broken(rule, logicals=(first, replace(two, **changes)))
+
+    with_second("none")
+    broken("signature", header=replace(t.header, boot_signature=b"\xaa\x55"))
+    broken("flag", header=header(part(5, 4096, 16384), part(0, 0, 0, boot=1)))
+    with_first("flag", partition=part(0x83, 6144, 2048, boot=2))
+    with_first("chs", ebr_last_chs=CHS(1024, 0, 0))
+    with_first("chs", ebr_first_chs=CHS(1023, 255, 64))
+    broken("primary start", header=header(part(5, 4096, 16384), part(0x83, 0, 1)))
+    broken("primary sectors", header=header(part(5, 4096, 16384), part(0x83, 1, 0)))
+    broken("primary end", disk_size=20479)
+    broken("overlap", header=header(part(5, 4096, 16384), part(0x83, 4095, 2)))
+    broken("one extended", header=header(part(5, 4096, 16384), part(5, 1, 1)))
+    broken("no extended", header=header(part(0x83, 4096, 16384)))
+    with_first("logical used", partition=part(0, 6144, 2048))
+    with_first("logical extended", partition=part(0x85, 6144, 2048))
+    with_first("logical sectors", partition=part(0x83, 6144, 0))
+    with_first("logical start", partition=part(0x83, 4096, 2048))
+    with_first("logical end", partition=part(0x83, 6144, 14337))
+    with_first("none", partition=part(0x83, 6144, 14336))
+    with_first("first ebr", absolute_ebr_lba=4097)
+    with_second("link sectors", ebr_sectors=None)
+    with_second("link sectors", ebr_sectors=0)
+    with_second("link end", ebr_sectors=12289)
+    with_second("none", ebr_sectors=12288)
+    with_second("link covers", ebr_sectors=4095)
+    with_second("logical end", absolute_ebr_lba=8191, partition=part(0x83, 8192, 1))
+    refused(6, m.broken_rules, replace(t, logicals=(first,) * 25))
+
+
+def any_disk(rng):
+    """A small disk with a chain, often sound."""
+    disk_size = rng.randrange(60, 140)
+    start = rng.randrange(1, 20)
+    sectors = rng.randrange(10, disk_size - start + 2)
+    at, places = start, []
+    while len(places) < rng.randrange(0, 5):
+        first = at + rng.randrange(1, 4)
+        length = rng.randrange(1, 12)
+        if first + length > start + sectors and rng.random() < 0.95:
+            break
+        places.append((at, first, length))
+        at = first + length + rng.randrange(0, 5)
+    records = {0: m.header_bytes(header(part(rng.choice((5, 15, 0x85)), start, sectors)))}
+    for i, (place, first, length) in enumerate(places):
+        link = m.NO_ENTRY
+        if i + 1 < len(places):
+            nxt = places[i + 1]
+            link = part(5, nxt[0] - start, nxt[1] + nxt[2] - nxt[0])
+        records[place] = m.ebr_bytes(m.EBR(rng.randbytes(446), part(0x83, first - place, length), link))
+    return extract(disk_size, records)
+
+
+def careful_disks():
+    """Every prefix of the stores reads as the old table or as the new one."""
+    rng = random.Random(20)
+    accepted = 0
+    for _ in range(6000):
+        x = any_disk(rng)
+        old = answer(m.read_table, x)
+        if rng.random() < 0.6:
+            align = rng.choice((1, 1, 2, 3))
+            geometry = rng.choice((Geometry(0, 0, 0), Geometry(20, 2, 4)))
+            change = answer(m.careful_push, x, align, geometry, 0x83, rng.randrange(0, 90), rng.randrange(0, 30),
+                            bytearray(1032))
+        else:
+            change = answer(m.careful_removal, x, rng.randrange(4, 10), bytearray(1032))
+        if change[0] == "refused":
+            continue
+        accepted += 1
+        after, stores = change[1]
+        for k in range(len(stores) + 1):
+            now = m.read_disk(after_stores(x, stores[:k]))
+            want = after if k == len(stores) else old[1]
+            # alignment and geometry are the request's, not the disk's
+            same(now, replace(want, align=now.align, cylinders=0, heads=0, sectors=0))
+            same(m.broken_rules(now), [])
+    same(accepted > 1000, True)
+
+
+def written_disks():
+    """A sound table that is written reads back; other lent bytes stay."""
+    rng = random.Random(21)
+    for _ in range(1000):
+        x = any_disk(rng)
+        try:
+            t = m.read_table(x)
+        except Refusal:
+            continue
+        if not m.sound(t) or not t.logicals:
+            continue
+        out = bytearray(b"\x44" * 20000)
+        done = m.write_table(t, extract(t.disk_size, {}), out)
+        same(m.read_table(bytes(out[:done.length])), t)
+        same(bytes(out[done.length:]), b"\x44" * (20000 - done.length))
+
+
+for group in (chs_numbers, alignment_numbers, free_numbers, disk_k_numbers, extract_rules, chain_rules, pushes,
+              lookups, writing, soundness, careful_disks, written_disks):
+    group()
+print(f"selftest: {count} checks hold")

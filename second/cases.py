@@ -75,7 +75,7 @@ def chs_cases():
     for chs in ((0, 32, 33), (514, 3, 5), (1023, 254, 63)):
         case("chs_to_bytes", *chs)
     for text in ("202100", "038502", "feffff"):
-        case("chs_of_bytes", text)
+        case("chs_of_bytes", *bytes.fromhex(text))
     for lba in (2048, 16450559, 16450560):
         case("chs_exact", lba, 1023, 255, 63)
     case("chs_is_valid", 1023, 254, 63, 1023, 255, 63)
@@ -142,7 +142,7 @@ def chs_cases():
                 (1023, 0, 64), (1280, 9, 65), (65535, 255, 255), (65280, 128, 192), (0, 0, 63), (0, 0, 128)):
         case("chs_to_bytes", *chs)
     for text in ("000000", "ffffff", "ff0000", "00ff00", "0000ff", "004000", "008000", "00c000", "003f00", "7fbf80"):
-        case("chs_of_bytes", text)
+        case("chs_of_bytes", *bytes.fromhex(text))
 
     note("CHS: seeded")
     rng = Seeded(101)
@@ -158,7 +158,7 @@ def chs_cases():
         case("chs_to_bytes", *words)
         case("chs_to_lba", *words, rng.below(256), rng.below(256))
         case("chs_is_valid", *words, rng.below(65536), rng.below(256), rng.below(256))
-        case("chs_of_bytes", rng.bytes(3))
+        case("chs_of_bytes", *rng.bytes(3))
 
 
 # ---------------------------------------------------------------- entries
@@ -186,35 +186,35 @@ def header_of(*entries, code=bytes(440), disk=bytes(4), copy=bytes(2), sign=m.SI
     return m.Header(code, disk, copy, tuple(entries) + (m.NO_ENTRY,) * (4 - len(entries)), sign)
 
 
-def take_header(h):
-    """H becomes this header, field by field."""
-    case("h", h.disk_signature)
-    if h.bootstrap_code.strip(b"\0"):
-        case("hc", 0, h.bootstrap_code.rstrip(b"\0"))
-    if h.copy_protected != bytes(2):
-        case("hm", h.copy_protected)
-    for number, entry in enumerate(h.entries, 1):
-        if entry != m.NO_ENTRY:
-            case("he", number, *words_of(entry))
-    if h.boot_signature != m.SIGNATURE:
-        case("hs", h.boot_signature)
+def words_of_header(h):
+    words = [*h.disk_signature, *h.copy_protected, *h.boot_signature]
+    for e in h.entries:
+        words += words_of(e)
+    return words
+
+
+def header_case(word, h, *more):
+    """A case on a header: its code goes to X."""
+    lend(h.bootstrap_code.rstrip(b"\0"))
+    case(word, *words_of_header(h), *more)
 
 
 DISK_K = header_of(part(0x05, 4096, 16384))
 
 
 def mbr_cases():
-    note("MBR: new, numbers, copy mark")
-    for disk in ("00000000", "01020304", "ffffffff"):
-        case("h", disk)
-        case("mbr_show")
-    for number in (1, 2, 3, 4):
-        case("he", number, *words_of(part(number, number * 1000, number * 100)))
+    note("MBR: new, numbers, copy mark, the first extended entry")
+    for disk in ((0, 0, 0, 0), (1, 2, 3, 4), (255, 255, 255, 255)):
+        case("mbr_new", *disk)
+    four = header_of(*(part(number, number * 1000, number * 100) for number in (1, 2, 3, 4)))
     for number in (0, 1, 2, 3, 4, 5, 6, 255, 256, 257, BIG, BIG + 2, 10 ** 17 + 1):
-        case("mbr_get", number)
+        case("mbr_get", *words_of_header(four), number)
     for mark in ("0000", "5a5a", "5a00", "005a", "a5a5", "5a5b", "5b5a", "ffff", "0100", "0001"):
-        case("hm", mark)
-        case("mbr_copy")
+        case("mbr_copy", *words_of_header(header_of(copy=bytes.fromhex(mark))))
+    for kinds in ((0x83, 0x82), (0x05, 0x0F), (0x83, 0x85, 0x05), (0, 0, 0xC5, 0xD5), (1, 2, 3, 0xD5), (4, 6, 0x15, 0x04)):
+        entries = (part(kind, 100 * number, 10) for number, kind in enumerate(kinds, 1))
+        case("mbr_extended", *words_of_header(header_of(*entries)))
+    case("mbr_extended", *words_of_header(header_of(part(0x0F, 7, 0, 0x33), sign=b"\0\0")))
 
     note("MBR: read, K's record 0 and the lengths")
     record = m.header_bytes(DISK_K)
@@ -243,11 +243,6 @@ def mbr_cases():
         for flag in ("01", "7f", "81", "ff", "80"):
             case("xp", at, flag)
             case("mbr_read")
-    case("hx")
-    case("mbr_show")
-    case("xp", 494, "08")
-    case("hx")
-    case("mbr_show")
 
     note("MBR: each field in its place")
     case("x", 512)
@@ -259,28 +254,22 @@ def mbr_cases():
         case("mbr_read")
 
     note("MBR: written, the lengths and the order 3, 4, 19")
-    take_header(DISK_K)
     for length in (512, 513, 600, 511, 0):
         case("o", length, 238)
-        case("mbr_write")
-    for sign in ("0000", "aa55", "55ab"):
-        case("hs", sign)
-        case("o", 512, 17)
-        case("mbr_write")
-    case("he", 4, *words_of(part(0, 0, 0, 1)))
-    case("mbr_write")
-    case("o", 10, 17)
-    case("mbr_write")
-    case("hs", m.SIGNATURE)
-    case("mbr_write")
-    for number in (1, 2, 3, 4):
+        header_case("mbr_write", DISK_K)
+    bad_flag = DISK_K.entries[:3] + (part(0, 0, 0, 1),)
+    for length in (512, 10):
+        case("o", length, 17)
+        for sign in ("55aa", "0000", "aa55", "55ab"):
+            header_case("mbr_write", header_of(*DISK_K.entries, sign=bytes.fromhex(sign)))
+            header_case("mbr_write", header_of(*bad_flag, sign=bytes.fromhex(sign)))
+    for at in range(4):
         for flag in (0x7F, 0x81):
-            take_header(DISK_K)
-            case("he", number, *words_of(part(0x83, 1, 1, flag)))
+            entries = list(DISK_K.entries)
+            entries[at] = part(0x83, 1, 1, flag)
             case("o", 512, 9)
-            case("mbr_write")
-    take_header(header_of(part(0x83, 1, 1, 0x80), part(0x83, 2, 1, 0x80)))
-    case("mbr_write")
+            header_case("mbr_write", header_of(*entries))
+    header_case("mbr_write", header_of(part(0x83, 1, 1, 0x80), part(0x83, 2, 1, 0x80)))
 
     note("MBR: seeded, read and written again")
     rng = Seeded(202)
@@ -289,29 +278,24 @@ def mbr_cases():
                       copy=rng.bytes(2))
         lend(m.header_bytes(h))
         case("mbr_read")
-        case("hx")
         case("o", 520, 170)
-        case("mbr_write")
+        case("mbr_again")
+    case("xp", 494, "08")
+    case("mbr_again")
     for _ in range(6):
         h = header_of(*(seeded_entry(rng, narrow=False) for _ in range(4)), code=rng.bytes(40) + bytes(400),
                       disk=rng.bytes(4), copy=rng.bytes(2))
-        take_header(h)
-        case("mbr_show")
         case("o", 512, 1)
-        case("mbr_write")
+        header_case("mbr_write", h)
 
 
 # ---------------------------------------------------------------- the EBR
 
 
-def take_ebr(ebr):
-    case("e")
-    if ebr.bootstrap_code.strip(b"\0"):
-        case("ec", 0, ebr.bootstrap_code.rstrip(b"\0"))
-    if ebr.partition != m.NO_ENTRY:
-        case("e1", *words_of(ebr.partition))
-    if ebr.link != m.NO_ENTRY:
-        case("e2", *words_of(ebr.link))
+def ebr_case(word, ebr):
+    """A case on an EBR: its code goes to X."""
+    lend(ebr.bootstrap_code.rstrip(b"\0"))
+    case(word, *words_of(ebr.partition), *words_of(ebr.link))
 
 
 FIRST_OF_K = m.EBR(bytes(446), part(0x83, 2048, 2048), m.NO_ENTRY)
@@ -350,9 +334,8 @@ def ebr_cases():
     note("EBR: the 32 further bytes are not looked at, and written as zeros")
     case("xp", 478, "ff" * 32)
     case("ebr_read")
-    case("ex")
     case("o", 515, 51)
-    case("ebr_write")
+    case("ebr_again")
 
     note("EBR: each field in its place")
     case("x", 512)
@@ -365,22 +348,17 @@ def ebr_cases():
 
     note("EBR: written, the lengths and the order 4, 19")
     for ebr in (FIRST_OF_K, LINKED):
-        take_ebr(ebr)
-        case("ebr_show")
         for length in (512, 513, 511, 0):
             case("o", length, 204)
-            case("ebr_write")
+            ebr_case("ebr_write", ebr)
     for flag in (1, 0x7F, 0x81, 0xFF):
-        for which in ("e1", "e2"):
-            take_ebr(LINKED)
-            case(which, *words_of(part(0x83, 1, 1, flag)))
-            case("o", 512, 3)
-            case("ebr_write")
-    case("o", 511, 3)
-    case("ebr_write")
-    take_ebr(m.EBR(bytes(446), part(0x83, 1, 1, 0x80), part(0x05, 1, 1, 0x80)))
+        bad = part(0x83, 1, 1, flag)
+        for length in (512, 511):
+            case("o", length, 3)
+            ebr_case("ebr_write", m.EBR(bytes(446), bad, LINKED.link))
+            ebr_case("ebr_write", m.EBR(bytes(446), LINKED.partition, bad))
     case("o", 512, 255)
-    case("ebr_write")
+    ebr_case("ebr_write", m.EBR(bytes(446), part(0x83, 1, 1, 0x80), part(0x05, 1, 1, 0x80)))
 
     note("EBR: seeded, read and written again")
     rng = Seeded(303)
@@ -389,14 +367,14 @@ def ebr_cases():
         record[478:510] = rng.bytes(32)
         lend(record)
         case("ebr_read")
-        case("ex")
         case("o", 512, 102)
-        case("ebr_write")
+        case("ebr_again")
+    case("xp", 510, "0000")
+    case("ebr_again")
     for _ in range(6):
-        take_ebr(m.EBR(rng.bytes(30) + bytes(416), seeded_entry(rng, narrow=False), seeded_entry(rng, narrow=False)))
-        case("ebr_show")
         case("o", 530, 1)
-        case("ebr_write")
+        ebr_case("ebr_write", m.EBR(rng.bytes(30) + bytes(416), seeded_entry(rng, narrow=False),
+                                    seeded_entry(rng, narrow=False)))
 
 
 if __name__ == "__main__":

@@ -3,6 +3,7 @@ import random
 from dataclasses import replace
 
 import model as m
+from disk_k import disk_k
 from model import CHS, Entry, Geometry, Refusal, Run
 
 count = 0
@@ -47,11 +48,6 @@ def extract(disk_size, records, sector_size=512):
 
 def table(disk_size, align, *entries, logicals=()):
     return m.Table(512, header(*entries), tuple(logicals), align, 0, 0, 0, disk_size)
-
-
-def disk_k():
-    first = m.ebr_bytes(m.EBR(bytes(446), part(0x83, 2048, 2048), m.NO_ENTRY))
-    return extract(20480, {0: m.header_bytes(header(part(0x05, 4096, 16384))), 4096: first})
 
 
 def after_stores(x, stores):

@@ -2,15 +2,14 @@
 use mathlib.Core.Path.{_≡_, refl, sym, ap, subst, _∙_}
 use mathlib.Core.List.{List, [], _∷_}
 use mathlib.Core.Bool.{Bool, true, false}
-use mathlib.Core.Logic.{⊎-elim, _⊎_, inl, inr}
 use Prim.Native.Nat.{ℕ, zero, suc, _+_, _*_, _/_, _%_, _^_, _≤_, _<_}
 use native.Mathlib.Omega.{arith}
 use native.Mathlib.Nat.{pow-suc}
 use native.Mathlib.Decide.{decLt}
-use lib.Dec.{eqb, T}
+use lib.Dec.{eqb}
 use lib.Pow.{shl-exact}
 use lib.Count.{ones, ones-step, onesIn, trailingZeros}
-use borrow.Author.Tests.{eqb-true, ne-eqb}
+use borrow.Author.Tests.{eqb-true, eqb-false, ne-eqb}
 use Rattle.base.specs.Pick.{pick, among}
 use Rattle.base.specs.Said.{gives}
 use Rattle.extract.specs.Extract.{sizeOk}
@@ -31,63 +30,25 @@ ones-pop (suc k) n h =
     let q : n / 2 < 2 ^ k = omega arith in
     ones-step n ∙ ap (λ (m : ℕ). n % 2 + m) (ones-pop k (n / 2) q)
 
-abbrev same : Bool → Bool → Bool
-same true b = b
-same false true = false
-same false false = true
+-- no digit set: zero
+pop-zero : (k n : ℕ) → n < 2 ^ k → pop k n ≡ 0 → n ≡ 0
+pop-zero zero n h e = omega arith
+pop-zero (suc k) n h e =
+    let p : 2 ^ suc k ≡ 2 ^ k * 2 = pow-suc 2 k in
+    omega (arith, pop-zero k (n / 2) (omega arith) (omega arith))
 
-same-eq : (a b : Bool) → T (same a b) → a ≡ b
-same-eq true true h = refl
-same-eq true false h = absurd h
-same-eq false true h = absurd h
-same-eq false false h = refl
+-- one digit set, and not the lowest: half of the number has one
+half : (k n : ℕ) → 2 ≤ n → n < 2 ^ suc k → pop (suc k) n ≡ 1 → (n ≡ 2 * (n / 2)) × (pop k (n / 2) ≡ 1)
+half k n l h e = go (n % 2) refl
+  where
+    q : n / 2 < 2 ^ k
+    q =
+        let p : 2 ^ suc k ≡ 2 ^ k * 2 = pow-suc 2 k in
+        omega arith
 
--- a test that passes at each of n numbers from i on
-abbrev both : Bool → Bool → Bool
-both true b = b
-both false b = false
-
-abbrev every : (ℕ → Bool) → ℕ → ℕ → Bool
-every f i zero = true
-every f i (suc n) = both (f i) (every f (suc i) n)
-
-left : (a b : Bool) → T (both a b) → T a
-left true b t = tt
-left false b t = t
-
-right : (a b : Bool) → T (both a b) → T b
-right true b t = t
-right false b t = absurd t
-
-split : (i k : ℕ) → i ≤ k → (i ≡ k) ⊎ (suc i ≤ k)
-split i k p = elim (decLt i k) [ yes h ↦ inr h | no h ↦ inl (omega arith) ]
-
-each : (f : ℕ → Bool) (n i k : ℕ) → T (every f i n) → i ≤ k → k < i + n → T (f k)
-each f zero i k t p q = absurd (omega arith)
-each f (suc n) i k t p q =
-    elim (split i k p) [
-      | inl e ↦ subst (λ (m : ℕ). T (f m)) e (left (f i) (every f (suc i) n) t)
-      | inr h ↦ each f n (suc i) k (right (f i) (every f (suc i) n) t) h (omega arith)
-    ]
-
-right-size : ℕ → Bool
-right-size s = same (eqb (pop 13 s) 1) (sizeOk s)
-
-all-sizes : T (every right-size 512 3585)
-unfolding right-size
-all-sizes = tt
-
--- from 512 to 4,096, one set bit is a sector size
-pub size-ones : (s : ℕ) → 512 ≤ s → s ≤ 4096 → eqb (ones s) 1 ≡ sizeOk s
-unfolding right-size
-size-ones s p q = rw (ones-pop 13 s (omega arith)) (same-eq _ _ (each right-size 3585 512 s all-sizes p (omega arith)))
-
--- any other number is none
-pub size-low : (s : ℕ) → s < 512 → sizeOk s ≡ false
-size-low s h = simp (ne-eqb s 512 (λ e. omega arith), ne-eqb s 1024 (λ e. omega arith), ne-eqb s 2048 (λ e. omega arith), ne-eqb s 4096 (λ e. omega arith))
-
-pub size-high : (s : ℕ) → 4096 < s → sizeOk s ≡ false
-size-high s h = simp (ne-eqb s 512 (λ e. omega arith), ne-eqb s 1024 (λ e. omega arith), ne-eqb s 2048 (λ e. omega arith), ne-eqb s 4096 (λ e. omega arith))
+    go : (b : ℕ) → n % 2 ≡ b → (n ≡ 2 * (n / 2)) × (pop k (n / 2) ≡ 1)
+    go zero z = (omega arith, omega arith)
+    go (suc b) z = absurd (omega (arith, pop-zero k (n / 2) q (omega arith)))
 
 -- the four sizes
 pub size-cases : (P : ℕ → Type 0) → P 512 → P 1024 → P 2048 → P 4096 → (s : ℕ) → sizeOk s ≡ true → P s
@@ -109,6 +70,80 @@ size-cases P a b c d s h = one (eqb s 512) refl h
     one true q e = subst P (sym (eqb-true s 512 q)) a
     one false q e = two (eqb s 1024) refl e
 
+-- of 1 to 8, those with one digit set are 1, 2, 4 and 8
+eight : (m : ℕ) → 1 ≤ m → m ≤ 8 → pop 4 m ≡ 1 → sizeOk (512 * m) ≡ true
+eight m p q e = elim (decLt m 2) [
+  | yes h ↦ at 1 refl (omega arith)
+  | no h ↦ let a = half 3 m (omega arith) (omega arith) e in
+      elim (decLt m 4) [
+        | yes h ↦ at 2 refl (omega arith)
+        | no h ↦ let b = half 2 (m / 2) (omega arith) (omega arith) (a .1) in
+            elim (decLt m 8) [ yes h ↦ at 4 refl (omega arith) | no h ↦ at 8 refl (omega arith) ]
+      ]
+]
+  where
+    at : (k : ℕ) → sizeOk (512 * k) ≡ true → m ≡ k → sizeOk (512 * m) ≡ true
+    at k r z = rw z r
+
+-- m doubled j times, and j more than k
+abbrev doubled : ℕ → ℕ → ℕ
+doubled zero m = m
+doubled (suc j) m = 2 * doubled j m
+
+abbrev more : ℕ → ℕ → ℕ
+more zero k = k
+more (suc j) k = suc (more j k)
+
+doubled-one : (j : ℕ) → 1 ≤ doubled j 1
+doubled-one zero = omega arith
+doubled-one (suc j) = omega (arith, doubled-one j)
+
+halves : (j k n : ℕ) → doubled j 1 ≤ n → n < 2 ^ more j k → pop (more j k) n ≡ 1 → (m : ℕ) × ((n ≡ doubled j m) × (pop k m ≡ 1))
+halves zero k n l h e = (n, (refl, e))
+halves (suc j) k n l h e =
+    let p : 2 ^ suc (more j k) ≡ 2 ^ more j k * 2 = pow-suc 2 (more j k) in
+    let a = half (more j k) n (omega (arith, doubled-one j)) h e in
+    let r = halves j k (n / 2) (omega arith) (omega arith) (a .1) in
+    (r .0, (a .0 ∙ ap (λ (d : ℕ). 2 * d) (r .1 .0), r .1 .1))
+
+times : (s m : ℕ) → 512 ≤ s → s ≤ 4096 → s ≡ doubled 9 m → pop 4 m ≡ 1 → sizeOk s ≡ true
+times s m p q z e =
+    let y : s ≡ 512 * m = omega arith in
+    rw y (eight m (omega arith) (omega arith) e)
+
+-- from 512 to 4,096, one set bit is a sector size
+bit-size : (s : ℕ) → 512 ≤ s → s ≤ 4096 → s < 2 ^ 13 → pop 13 s ≡ 1 → sizeOk s ≡ true
+bit-size s p q l e =
+    let r = halves 9 4 s p l e in
+    times s (r .0) p q (r .1 .0) (r .1 .1)
+
+abbrev OneBit : ℕ → Type 0
+OneBit s = pop 13 s ≡ 1
+
+size-bit : (s : ℕ) → sizeOk s ≡ true → pop 13 s ≡ 1
+size-bit = size-cases OneBit refl refl refl refl
+
+pub size-ones : (s : ℕ) → 512 ≤ s → s ≤ 4096 → eqb (ones s) 1 ≡ sizeOk s
+size-ones s p q = rw (ones-pop 13 s l) (go (eqb (pop 13 s) 1) (sizeOk s) refl refl)
+  where
+    l : s < 2 ^ 13
+    l = omega arith
+
+    go : (t u : Bool) → eqb (pop 13 s) 1 ≡ t → sizeOk s ≡ u → t ≡ u
+    go true true a b = refl
+    go false false a b = refl
+    go true false a b =
+        let w : true ≡ false = sym (bit-size s p q l (eqb-true _ _ a)) ∙ b in
+        w
+    go false true a b = absurd (eqb-false _ _ a (size-bit s b))
+
+-- any other number is none
+pub size-low : (s : ℕ) → s < 512 → sizeOk s ≡ false
+size-low s h = simp (ne-eqb s 512 (λ e. omega arith), ne-eqb s 1024 (λ e. omega arith), ne-eqb s 2048 (λ e. omega arith), ne-eqb s 4096 (λ e. omega arith))
+
+pub size-high : (s : ℕ) → 4096 < s → sizeOk s ≡ false
+size-high s h = simp (ne-eqb s 512 (λ e. omega arith), ne-eqb s 1024 (λ e. omega arith), ne-eqb s 2048 (λ e. omega arith), ne-eqb s 4096 (λ e. omega arith))
+
 -- two to the trailing zeros of a sector size is the size
 abbrev Shift : ℕ → Type 0
 Shift s = (2 ^ trailingZeros 32 s ≡ s) × (trailingZeros 32 s < 13)
@@ -118,8 +153,9 @@ unfolding trailingZeros
 shift-size = size-cases Shift (refl, omega arith) (refl, omega arith) (refl, omega arith) (refl, omega arith)
 
 -- an LBA shifted is within 64 bits: nothing is lost
-pub place-said : (s a k : ℕ) → sizeOk s ≡ true → a < 2 ^ 32 → 2 ^ k ≡ s → k < 13 → gives (a * 2 ^ k % 2 ^ 64) ≡ placeSays s a
+pub place-said : (s a : ℕ) → sizeOk s ≡ true → a < 2 ^ 32 → gives (a * 2 ^ trailingZeros 32 s % 2 ^ 64) ≡ placeSays s a
 unfolding placeSays
-place-said s a k h b e l =
-    let p : a * 2 ^ k % 2 ^ 64 ≡ a * 2 ^ k = shl-exact 32 k 64 b (omega arith) in
-    rw h (ap gives (p ∙ ap (λ (n : ℕ). a * n) e))
+place-said s a h b =
+    let k = shift-size s h in
+    let p : a * 2 ^ trailingZeros 32 s % 2 ^ 64 ≡ a * 2 ^ trailingZeros 32 s = shl-exact 32 (trailingZeros 32 s) 64 b (omega (arith, k .1)) in
+    rw h (ap gives (p ∙ ap (λ (n : ℕ). a * n) (k .0)))

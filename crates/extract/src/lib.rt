@@ -1,7 +1,6 @@
 // The extract: a header of 24 bytes, n LBAs, n records of 512 bytes; and the disk that it stands for.
 ghost use mathlib.Core.Path.{_≡_};
-ghost use mathlib.Core.Bool.{true};
-ghost use Prim.Native.Nat.{ℕ, _+_, _*_, _^_, _≤_, _<_};
+ghost use Prim.Native.Nat.{ℕ, _+_, _*_, _≤_, _<_};
 ghost use lib.ListN.{length};
 ghost use Rattle.extract.specs.Extract.{Good, word, count, sizeOk, lbasFrom, headerChecks, lbaChecks, recordOf, lookedUp};
 ghost use Rattle.base.specs.Bytes.{Bytes};
@@ -66,20 +65,12 @@ fn size_ok(size: u32) -> bool
     u32::count_ones(size) == 1
 }
 
-// By how many bits an LBA is shifted: the sector size is two to that power.
-fn shift_of(size: u32) -> u32
-    requires { ⌜ sizeOk size ≡ true ⌝ }
-    ensures { λ r. ⌜ (2 ^ r ≡ size) × (r < 13) ⌝ }
-{
-    u32::trailing_zeros(size)
-}
-
-// Where an LBA starts on the disk, in bytes.
+// Where an LBA starts on the disk, in bytes: the LBA shifted by the trailing zeros of the sector size.
 pub fn byte_place(sector_size: u32, lba: u32) -> Place
     ensures { λ r. ⌜ placeSaid r ≡ placeSays «sector_size» lba ⌝ }
 {
     if size_ok(sector_size) {
-        Place::At((lba as u64) << shift_of(sector_size))
+        Place::At((lba as u64) << u32::trailing_zeros(sector_size))
     } else {
         Place::Refused(Refusal { number: 1 })
     }

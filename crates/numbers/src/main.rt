@@ -1,89 +1,58 @@
-// Runs the cases on standard input and writes their answers: second/answers.py says what the commands are.
-mod lent;
-mod line;
+// Runs the cases on standard input and writes their answers. second/answers.py says what the commands are.
 mod on_chs;
 mod on_ebr;
 mod on_entry;
 mod on_mbr;
-mod say;
-mod state;
 
-use state::Changed;
-use state::State;
+use cases::lent;
+use cases::lent::Lengths;
+use cases::line;
+use cases::say;
 
 fn main() {
-    let mut text = [0u8; 262144];
-    let mut x = [0u8; 65536];
-    let mut o = [0u8; 65536];
+    let mut text = lent::text_buffer();
+    let mut x = io::large_buffer();
+    let mut o = io::large_buffer();
     let n = io::read_full(0, &mut text);
     run(&text[..n], &mut x, &mut o);
 }
 
 fn run(text: &[u8], x: &mut [u8], o: &mut [u8]) {
-    let mut s = state::start();
+    let mut n = Lengths { x: 0, o: 0 };
     let mut at = 0;
     while at < text.len() {
-        let l = line::at(text, at);
+        let l = line::cut(text, at, b'\n');
         let end = l.end;
-        s = command(&text[at..end], x, o, s);
+        n = command(&text[at..end], x, o, n);
         at = l.next;
     }
 }
 
-fn command(l: &[u8], x: &mut [u8], o: &mut [u8], s: State) -> State {
-    if line::is(l, b"#") {
-        return s;
+fn command(l: &[u8], x: &mut [u8], o: &mut [u8], n: Lengths) -> Lengths {
+    let k = line::which(l, b"# xp x o");
+    if k < 4 {
+        return lent::change(k, l, x, o, n);
     }
-    let c = lent::change(l, x, o, s);
-    let t = c.state;
-    if c.known {
-        return t;
-    }
-    let n = t.x;
-    step(l, lent::part(x, n), o, t)
-}
-
-fn step(l: &[u8], x: &[u8], o: &mut [u8], s: State) -> State {
-    let c = change(l, x, s);
-    let t = c.state;
-    if !c.known {
-        let n = t.o;
-        answer(l, x, lent::part_mut(o, n), t);
-    }
-    t
-}
-
-// The commands that print nothing.
-fn change(l: &[u8], x: &[u8], s: State) -> Changed {
-    let c = on_mbr::change(l, x, s);
-    if c.known {
-        return c;
-    }
-    on_ebr::change(l, x, s)
-}
-
-// The commands that print a line.
-fn answer(l: &[u8], x: &[u8], o: &mut [u8], s: State) {
+    let from = n.x;
+    let to = n.o;
     say::text(line::word(l));
-    say::text(b" ");
-    answered(l, x, o, s);
-    say::end();
+    answer(l, lent::part(x, from), lent::part_mut(o, to));
+    say::text(b"\n");
+    n
 }
 
-fn answered(l: &[u8], x: &[u8], o: &mut [u8], s: State) {
+fn answer(l: &[u8], x: &[u8], o: &mut [u8]) {
     if on_chs::run(l) {
         return;
     }
     if on_entry::run(l) {
         return;
     }
-    let h = s.header;
-    if on_mbr::run(l, x, o, h) {
+    if on_mbr::run(l, x, o) {
         return;
     }
-    let e = s.ebr;
-    if on_ebr::run(l, x, o, e) {
+    if on_ebr::run(l, x, o) {
         return;
     }
-    say::text(b"unknown");
+    say::text(b" unknown");
 }

@@ -1,17 +1,15 @@
 // CHS addresses.
-ghost use Prim.Native.Nat.{_<_};
-use crate::line;
-use crate::say;
+use cases::line;
+use cases::say;
 use chs::CHS;
 use chs::Lba;
 use chs::Placed;
+ghost use Prim.Native.Nat.{_<_};
 
 pub fn show(c: CHS) {
-    say::number(c.cylinder as u64);
-    say::text(b"/");
-    say::number(c.head as u64);
-    say::text(b"/");
-    say::number(c.sector as u64);
+    say::n16(c.cylinder);
+    say::n8(c.head);
+    say::n8(c.sector);
 }
 
 // The address in three words of the line, after `k` spaces.
@@ -28,70 +26,56 @@ fn placed(p: Placed) {
     }
 }
 
-fn exact(l: &[u8]) {
-    placed(CHS::from_lba_exact(
-        line::n32(l, 1),
-        line::n16(l, 2),
-        line::n8(l, 3),
-        line::n8(l, 4),
-    ));
-}
-
-fn aligned(l: &[u8]) {
-    placed(CHS::from_lba_aligned(
-        line::n32(l, 1),
-        line::n16(l, 2),
-        line::n8(l, 3),
-        line::n8(l, 4),
-    ));
-}
-
-fn to_lba(l: &[u8]) {
-    match given(l, 1).to_lba(line::n8(l, 4), line::n8(l, 5)) {
-        Lba::At(n) => say::number(n as u64),
+fn to_lba(l: &[u8], c: CHS) {
+    match c.to_lba(line::n8(l, 4), line::n8(l, 5)) {
+        Lba::At(n) => say::n32(n),
         Lba::Refused(n) => say::refused(n),
     }
 }
 
-fn is_valid(l: &[u8]) {
-    say::truth(given(l, 1).is_valid(line::n16(l, 4), line::n8(l, 5), line::n8(l, 6)));
-}
-
-fn to_bytes(l: &[u8]) {
-    let b = given(l, 1).to_bytes();
+fn to_bytes(c: CHS) {
+    let b = c.to_bytes();
     say::hex(b[0]);
     say::hex(b[1]);
     say::hex(b[2]);
 }
 
-fn of_bytes(l: &[u8]) {
-    let mut b = [0u8; 3];
-    line::bytes_in(l, 1, &mut b, 0);
-    show(CHS::of_bytes(b));
+fn of_bytes(l: &[u8]) -> CHS {
+    let b = [line::n8(l, 1), line::n8(l, 2), line::n8(l, 3)];
+    CHS::of_bytes(b)
 }
 
-// Answers the line if its command is one of these.
+fn of_lba(l: &[u8], exact: bool) -> Placed {
+    let lba = line::n32(l, 1);
+    let cylinders = line::n16(l, 2);
+    let heads = line::n8(l, 3);
+    let sectors = line::n8(l, 4);
+    if exact {
+        return CHS::from_lba_exact(lba, cylinders, heads, sectors);
+    }
+    CHS::from_lba_aligned(lba, cylinders, heads, sectors)
+}
+
+// Answers the line if its command is in the list.
 pub fn run(l: &[u8]) -> bool {
-    if line::is(l, b"chs_new") {
-        show(given(l, 1));
-    } else if line::is(l, b"chs_empty") {
-        show(CHS::empty());
-    } else if line::is(l, b"chs_exact") {
-        exact(l);
-    } else if line::is(l, b"chs_aligned") {
-        aligned(l);
-    } else if line::is(l, b"chs_to_lba") {
-        to_lba(l);
-    } else if line::is(l, b"chs_is_empty") {
-        say::truth(given(l, 1).is_empty());
-    } else if line::is(l, b"chs_is_valid") {
-        is_valid(l);
-    } else if line::is(l, b"chs_to_bytes") {
-        to_bytes(l);
-    } else if line::is(l, b"chs_of_bytes") {
-        of_bytes(l);
-    } else {
-        return false;
+    let k = line::which(
+        l,
+        b"chs_new chs_empty chs_exact chs_aligned chs_to_lba chs_is_empty chs_is_valid chs_to_bytes chs_of_bytes",
+    );
+    let c = given(l, 1);
+    match k {
+        0 => show(c),
+        1 => show(CHS::empty()),
+        2 => placed(of_lba(l, true)),
+        3 => placed(of_lba(l, false)),
+        4 => to_lba(l, c),
+        5 => say::truth(c.is_empty()),
+        6 => say::truth(c.is_valid(line::n16(l, 4), line::n8(l, 5), line::n8(l, 6))),
+        7 => to_bytes(c),
+        8 => show(of_bytes(l)),
+        _ => {
+            return false;
+        }
     }
     true
 }

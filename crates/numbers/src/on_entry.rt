@@ -1,27 +1,19 @@
 // Partition entries.
-use crate::line;
 use crate::on_chs;
-use crate::say;
+use cases::line;
+use cases::say;
 use entry::MBRPartitionEntry;
 ghost use Prim.Native.Nat.{_<_};
 
 pub fn show(e: MBRPartitionEntry) {
-    say::number(e.boot as u64);
-    say::text(b" ");
+    say::n8(e.boot);
     let first = e.first_chs;
     on_chs::show(first);
-    say::next(e.sys as u64);
-    say::text(b" ");
+    say::n8(e.sys);
     let last = e.last_chs;
     on_chs::show(last);
-    say::next(e.starting_lba as u64);
-    say::next(e.sectors as u64);
-}
-
-pub fn show_next(e: MBRPartitionEntry) {
-    say::text(b" [");
-    show(e);
-    say::text(b"]");
+    say::n32(e.starting_lba);
+    say::n32(e.sectors);
 }
 
 // The entry in ten words of the line, after `k` spaces.
@@ -42,29 +34,26 @@ pub fn given(l: &[u8], k: usize) -> MBRPartitionEntry
 
 fn is(e: MBRPartitionEntry) {
     say::truth(e.is_used());
-    say::text(b" ");
     say::truth(e.is_unused());
-    say::text(b" ");
     say::truth(e.is_extended());
-    say::text(b" ");
     say::truth(e.is_active());
 }
 
 fn boot() {
-    say::number(entry::BOOT_ACTIVE as u64);
-    say::next(entry::BOOT_INACTIVE as u64);
+    say::n8(entry::BOOT_ACTIVE);
+    say::n8(entry::BOOT_INACTIVE);
 }
 
-// Answers the line if its command is one of these.
+// Answers the line if its command is in the list.
 pub fn run(l: &[u8]) -> bool {
-    if line::is(l, b"entry_boot") {
-        boot();
-    } else if line::is(l, b"entry_empty") {
-        show(MBRPartitionEntry::empty());
-    } else if line::is(l, b"entry_is") {
-        is(given(l, 1));
-    } else {
-        return false;
+    let k = line::which(l, b"entry_boot entry_empty entry_is");
+    match k {
+        0 => boot(),
+        1 => show(MBRPartitionEntry::empty()),
+        2 => is(given(l, 1)),
+        _ => {
+            return false;
+        }
     }
     true
 }

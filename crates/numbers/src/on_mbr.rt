@@ -1,55 +1,89 @@
 // MBR records.
-use crate::lent;
-use crate::line;
 use crate::on_entry;
-use crate::say;
-use crate::state;
-use crate::state::Changed;
-use crate::state::State;
 use base::Answer;
+use cases::lent;
+use cases::line;
+use cases::say;
 use mbr::Found;
 use mbr::MBRHeader;
 use mbr::Protection;
 
-fn show_entries(h: MBRHeader) {
-    let first = h.partition_1;
-    on_entry::show_next(first);
-    let second = h.partition_2;
-    on_entry::show_next(second);
-    let third = h.partition_3;
-    on_entry::show_next(third);
-    let fourth = h.partition_4;
-    on_entry::show_next(fourth);
+fn code(x: &[u8]) -> [u8; 440] {
+    let mut c = [0u8; 440];
+    for i in 0..440 {
+        c[i] = lent::byte(x, i);
+    }
+    c
+}
+
+// The header in the line's words: disk signature, copy mark and boot signature byte by byte, then four entries. The code is
+// the start of X.
+fn given(l: &[u8], x: &[u8]) -> MBRHeader {
+    let code = code(x);
+    let disk = [
+        line::n8(l, 1),
+        line::n8(l, 2),
+        line::n8(l, 3),
+        line::n8(l, 4),
+    ];
+    let mark = [line::n8(l, 5), line::n8(l, 6)];
+    let sign = [line::n8(l, 7), line::n8(l, 8)];
+    let one = on_entry::given(l, 9);
+    let two = on_entry::given(l, 19);
+    let three = on_entry::given(l, 29);
+    let four = on_entry::given(l, 39);
+    MBRHeader {
+        bootstrap_code: code,
+        disk_signature: disk,
+        copy_protected: mark,
+        partition_1: one,
+        partition_2: two,
+        partition_3: three,
+        partition_4: four,
+        boot_signature: sign,
+    }
+}
+
+fn show_marks(disk: [u8; 4], mark: [u8; 2], sign: [u8; 2]) {
+    say::hex(disk[0]);
+    say::hex(disk[1]);
+    say::hex(disk[2]);
+    say::hex(disk[3]);
+    say::hex(mark[0]);
+    say::hex(mark[1]);
+    say::hex(sign[0]);
+    say::hex(sign[1]);
 }
 
 fn show(h: MBRHeader) {
     let code = h.bootstrap_code;
-    say::text(b"code");
-    say::next(lent::checksum(&code));
+    say::n64(lent::checksum(&code));
     let disk = h.disk_signature;
-    say::text(b" disk ");
-    say::four(disk);
-    let copy = h.copy_protected;
-    say::text(b" copy ");
-    say::two(copy);
-    show_entries(h);
+    let mark = h.copy_protected;
     let sign = h.boot_signature;
-    say::text(b" sign ");
-    say::two(sign);
+    show_marks(disk, mark, sign);
+    let one = h.partition_1;
+    on_entry::show(one);
+    let two = h.partition_2;
+    on_entry::show(two);
+    let three = h.partition_3;
+    on_entry::show(three);
+    let four = h.partition_4;
+    on_entry::show(four);
 }
 
-fn get(h: MBRHeader, i: usize) {
-    match h.get(i) {
-        Found::Nothing => say::text(b"none"),
+fn show_found(e: Found) {
+    match e {
+        Found::Nothing => say::text(b" none"),
         Found::Entry(e) => on_entry::show(e),
     }
 }
 
 fn copy(h: MBRHeader) {
     match h.is_copy_protected() {
-        Protection::No => say::text(b"no"),
-        Protection::Yes => say::text(b"yes"),
-        Protection::Neither => say::text(b"neither"),
+        Protection::No => say::truth(false),
+        Protection::Yes => say::truth(true),
+        Protection::Neither => say::text(b" neither"),
     }
 }
 
@@ -70,91 +104,46 @@ fn write(h: MBRHeader, o: &mut [u8]) {
     lent::answered(answer, o);
 }
 
-// Answers the line if its command is one of these.
-pub fn run(l: &[u8], x: &[u8], o: &mut [u8], h: MBRHeader) -> bool {
-    if line::is(l, b"mbr_show") {
-        show(h);
-    } else if line::is(l, b"mbr_get") {
-        get(h, line::size(l, 1));
-    } else if line::is(l, b"mbr_copy") {
-        copy(h);
-    } else if line::is(l, b"mbr_read") {
-        read(x);
-    } else if line::is(l, b"mbr_write") {
-        write(h, o);
-    } else {
-        return false;
+// What reading X answers, written.
+fn again(x: &[u8], o: &mut [u8]) {
+    let r = MBRHeader::read(x);
+    let answer = r.answer;
+    match answer {
+        Answer::Done => {
+            let h = r.header;
+            write(h, o);
+        }
+        Answer::Refused(n) => say::refused(n),
     }
-    true
 }
 
 fn new(l: &[u8]) -> MBRHeader {
-    let mut disk = [0u8; 4];
-    line::bytes_in(l, 1, &mut disk, 0);
+    let disk = [
+        line::n8(l, 1),
+        line::n8(l, 2),
+        line::n8(l, 3),
+        line::n8(l, 4),
+    ];
     MBRHeader::new(disk)
 }
 
-fn again(x: &[u8]) -> MBRHeader {
-    let r = MBRHeader::read(x);
-    r.header
-}
-
-fn with_code(l: &[u8], h: MBRHeader) -> MBRHeader {
-    let mut code = h.bootstrap_code;
-    line::bytes_in(l, 2, &mut code, line::size(l, 1));
-    let mut t = h;
-    t.bootstrap_code = code;
-    t
-}
-
-fn with_mark(l: &[u8], h: MBRHeader) -> MBRHeader {
-    let mut mark = [0u8; 2];
-    line::bytes_in(l, 1, &mut mark, 0);
-    let mut t = h;
-    t.copy_protected = mark;
-    t
-}
-
-fn with_sign(l: &[u8], h: MBRHeader) -> MBRHeader {
-    let mut sign = [0u8; 2];
-    line::bytes_in(l, 1, &mut sign, 0);
-    let mut t = h;
-    t.boot_signature = sign;
-    t
-}
-
-fn with_entry(l: &[u8], h: MBRHeader) -> MBRHeader {
-    let e = on_entry::given(l, 2);
-    let mut t = h;
-    let i = line::size(l, 1);
-    match i {
-        1 => t.partition_1 = e,
-        2 => t.partition_2 = e,
-        3 => t.partition_3 = e,
-        _ => t.partition_4 = e,
+// Answers the line if its command is in the list.
+pub fn run(l: &[u8], x: &[u8], o: &mut [u8]) -> bool {
+    let k = line::which(
+        l,
+        b"mbr_new mbr_get mbr_extended mbr_copy mbr_read mbr_write mbr_again",
+    );
+    match k {
+        0 => show(new(l)),
+        1 => show_found(given(l, x).get(line::size(l, 49))),
+        2 => show_found(given(l, x).get_extended_partition()),
+        3 => copy(given(l, x)),
+        4 => read(x),
+        5 => write(given(l, x), o),
+        6 => again(x, o),
+        _ => {
+            return false;
+        }
     }
-    t
-}
-
-pub fn change(l: &[u8], x: &[u8], s: State) -> Changed {
-    let h = s.header;
-    if line::is(l, b"h") {
-        return state::known(state::with_header(s, new(l)));
-    }
-    if line::is(l, b"hx") {
-        return state::known(state::with_header(s, again(x)));
-    }
-    if line::is(l, b"hc") {
-        return state::known(state::with_header(s, with_code(l, h)));
-    }
-    if line::is(l, b"hm") {
-        return state::known(state::with_header(s, with_mark(l, h)));
-    }
-    if line::is(l, b"hs") {
-        return state::known(state::with_header(s, with_sign(l, h)));
-    }
-    if line::is(l, b"he") {
-        return state::known(state::with_header(s, with_entry(l, h)));
-    }
-    state::unknown(s)
+    true
 }

@@ -6,19 +6,14 @@ use lib.Dec.{ltb}
 use lib.ListN.{length, replicate}
 use Rattle.base.specs.Said.{Said, gives, refuses, andThen, failure, valueOr}
 use Rattle.base.specs.Checks.{_!_, checked, answer}
-use Rattle.chs.specs.Chs.{noChs}
-use Rattle.entry.specs.Entry.{noEntry}
-use Rattle.ebr.specs.Ebr.{noKept}
 use Rattle.mbr.specs.declared.MBRHeader.{MBRHeader}
 use Rattle.mbr.specs.Mbr.{mbrOf, headerChecks, primaries, extendedOf, noHeader}
 use Rattle.extract.specs.Disk.{Disk}
 use Rattle.extract.specs.Extract.{diskOf}
 use Rattle.extract.specs.Answers.{checkSays}
-use Rattle.table.specs.declared.MaybeSectors.the-variants.{Absent}
-use Rattle.table.specs.declared.MaybeChs.the-variants.{Absent as NoChs}
 use Rattle.table.specs.declared.LogicalPartition.{LogicalPartition}
 use Rattle.table.specs.declared.MBR.{MBR}
-use Rattle.table.specs.Table.{most, defaultAlign, parts}
+use Rattle.table.specs.Table.{most, defaultAlign, parts, emptySlot}
 use Rattle.chain.specs.Chain.{view, logicalsOf}
 use Rattle.align.specs.Align.{usedStarts, alignment}
 
@@ -52,18 +47,6 @@ readSays x = andThen (checkSays x) (λ e. read (diskOf x))
 -- its header alone
 unfoldable pub headerSays : List ℕ → Said MBRHeader
 headerSays x = andThen (checkSays x) (λ e. headerOn (diskOf x))
-
--- an unused slot of the array
-abbrev pub emptySlot : LogicalPartition
-emptySlot =
-    record {
-      partition = noEntry;
-      «absolute_ebr_lba» = record { 0 = 0 };
-      «ebr_sectors» = Absent;
-      «ebr_first_chs» = noChs;
-      «ebr_last_chs» = NoChs;
-      kept = noKept;
-    }
 
 -- logical partitions in an array with unused slots behind them
 unfoldable pub slots : List LogicalPartition → List LogicalPartition

@@ -13,6 +13,7 @@ use Rattle.chs.specs.Chs.{noChs}
 use Rattle.entry.specs.declared.MBRPartitionEntry.{MBRPartitionEntry}
 use Rattle.entry.specs.Entry.{noEntry}
 use Rattle.ebr.specs.declared.Kept.{Kept}
+use Rattle.ebr.specs.Ebr.{noKept}
 use Rattle.mbr.specs.declared.MBRHeader.{MBRHeader}
 use Rattle.mbr.specs.Mbr.{primaries, primaryOf, noHeader, extendedOf}
 use Rattle.table.specs.declared.DiskLba.{DiskLba}
@@ -48,6 +49,18 @@ noLogical =
       «ebr_first_chs» = noChs;
       «ebr_last_chs» = NoChs;
       kept = record { «bootstrap_code» = [] };
+    }
+
+-- an unused slot of a table that is made: empty, its code zeros
+abbrev pub emptySlot : LogicalPartition
+emptySlot =
+    record {
+      partition = noEntry;
+      «absolute_ebr_lba» = record { 0 = 0 };
+      «ebr_sectors» = Absent;
+      «ebr_first_chs» = noChs;
+      «ebr_last_chs» = NoChs;
+      kept = noKept;
     }
 
 -- the first extended primary entry

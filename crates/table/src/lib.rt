@@ -4,7 +4,7 @@ use ebr::Kept;
 use entry::MBRPartitionEntry;
 use mbr::MBRHeader;
 ghost use mathlib.Core.Path.{_≡_};
-ghost use Rattle.table.specs.Table.{defaultAlign, greatestAlign};
+ghost use Rattle.table.specs.Table.{defaultAlign, greatestAlign, emptySlot};
 
 // The most logical partitions of a table.
 pub const LOGICALS: usize = 24;
@@ -46,6 +46,25 @@ pub struct MBR {
     pub heads: u8,
     pub sectors: u8,
     pub disk_size: u32,
+}
+
+impl LogicalPartition {
+    // What an unused slot of a table that is made holds.
+    pub fn empty() -> LogicalPartition
+        ensures { λ r. ⌜ r ≡ emptySlot ⌝ }
+    {
+        let none = MBRPartitionEntry::empty();
+        let first = CHS::empty();
+        let kept = Kept::empty();
+        LogicalPartition {
+            partition: none,
+            absolute_ebr_lba: DiskLba(0),
+            ebr_sectors: MaybeSectors::Absent,
+            ebr_first_chs: first,
+            ebr_last_chs: MaybeChs::Absent,
+            kept: kept,
+        }
+    }
 }
 
 impl MBR {

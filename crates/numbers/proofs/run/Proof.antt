@@ -7,19 +7,16 @@ use Rattle.numbers.proofs.run.Statement.{statement}
 use Rattle.numbers.proofs.run.Tie as tie
 
 abbrev Inv-loop : tie.InvT-loop
-Inv-loop text x₀ o₀ s₀ at₀ x o s at = (at ≤ length text) × ((length x ≡ length x₀) × (length o ≡ length o₀))
+Inv-loop text x₀ o₀ n₀ at₀ x o n at = (at ≤ length text) × ((length x ≡ length x₀) × (length o ≡ length o₀))
 
 abbrev μ-loop : tie.MeasureT-loop
-μ-loop text x₀ o₀ s₀ at₀ x o s at = length text - at
-
-start-requires : tie.Need-start-requires Inv-loop μ-loop
-start-requires c κs = search needs
+μ-loop text x₀ o₀ n₀ at₀ x o n at = length text - at
 
 loop-holds : tie.Need-loop-holds Inv-loop μ-loop
 loop-holds c = search needs
 
-at-requires : tie.Need-at-requires Inv-loop μ-loop
-at-requires c κs = search needs
+cut-requires : tie.Need-cut-requires Inv-loop μ-loop
+cut-requires c κs = search needs
 
 sub-command : tie.Need-sub-command Inv-loop μ-loop
 sub-command c = search needs
@@ -54,9 +51,8 @@ run-spec =
     (tie.spec
     Inv-loop
     μ-loop
-    start-requires
     loop-holds
-    at-requires
+    cut-requires
     sub-command
     part-command-start
     part-command-end

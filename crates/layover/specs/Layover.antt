@@ -1,0 +1,63 @@
+-- An extract of given records, and a record laid over an extract. Assumes nothing.
+use Prim.Native.Nat.{ℕ, _+_, _*_}
+use mathlib.Core.List.{List, [], _∷_, _++_}
+use mathlib.Core.Bool.{Bool, true, false}
+use lib.Dec.{eqb, leb, ltb}
+use lib.ListN.{length}
+use Rattle.base.specs.Pick.{pick}
+use Rattle.base.specs.Bytes.{bytesOf, little}
+use Rattle.base.specs.Put.{put}
+use Rattle.base.specs.Checks.{Check, _!_, checked}
+use Rattle.extract.specs.Disk.{Store}
+use Rattle.extract.specs.Extract.{sectorSize, diskSectors, records, mostRecords, extractChecks}
+
+-- the LBAs of records, one after the other
+unfoldable pub lbaBytes : List Store → List ℕ
+lbaBytes [] = []
+lbaBytes (s ∷ ss) = bytesOf little 4 (s .lba) ++ lbaBytes ss
+
+-- the records, one after the other
+unfoldable pub recordBytes : List Store → List ℕ
+recordBytes [] = []
+recordBytes (s ∷ ss) = s .bytes ++ recordBytes ss
+
+-- the header of an extract of n records, for d sectors of a size
+unfoldable pub headerBytes : ℕ → ℕ → ℕ → List ℕ
+headerBytes size d n =
+    bytesOf little 4 size ++
+    bytesOf little 4 d ++
+    bytesOf little 4 n ++
+    bytesOf little 4 24 ++
+    bytesOf little 4 (24 + n * 4) ++
+    bytesOf little 4 (24 + n * 516)
+
+-- an extract: header, LBAs, records
+unfoldable pub extractBytes : ℕ → ℕ → List Store → List ℕ
+extractBytes size d ss = headerBytes size d (length ss) ++ lbaBytes ss ++ recordBytes ss
+
+-- a record laid over others: in the place of the one at its LBA, else before the first at a higher LBA
+unfoldable pub laidOver : Store → List Store → List Store
+laidOver s [] = s ∷ []
+laidOver s (t ∷ ts) = pick (ltb (s .lba) (t .lba)) (s ∷ t ∷ ts) (pick (eqb (s .lba) (t .lba)) (s ∷ ts) (t ∷ laidOver s ts))
+
+-- the records of an extract with one laid over, and the new extract
+abbrev pub newRecords : List ℕ → ℕ → List ℕ → List Store
+newRecords x a r = laidOver (record { lba = a; bytes = r }) (records x)
+
+unfoldable pub newExtract : List ℕ → ℕ → List ℕ → List ℕ
+newExtract x a r = extractBytes (sectorSize x) (diskSectors x) (newRecords x a r)
+
+-- the refusals of too many records and of too short an output, in their order, for room bytes
+unfoldable pub roomChecks : List ℕ → ℕ → List ℕ → ℕ → List Check
+roomChecks x a r room =
+    (22 ! leb (length (newRecords x a r)) mostRecords) ∷
+    (19 ! leb (length (newExtract x a r)) room) ∷
+    []
+
+-- all refusals, in their order: the extract's rules, the record's length, its place on the disk, and those
+unfoldable pub layChecks : List ℕ → ℕ → List ℕ → ℕ → List Check
+layChecks x a r room =
+    extractChecks x ++
+    (1 ! eqb (length r) 512) ∷
+    (2 ! ltb a (diskSectors x)) ∷
+    roomChecks x a r room

@@ -1,0 +1,3 @@
+pub mod Layover
+pub mod Cut
+pub mod Answers

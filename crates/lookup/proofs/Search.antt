@@ -1,0 +1,146 @@
+-- Laws of the search for a sector: its turns, and the numbers that it can answer. Assumes nothing.
+use mathlib.Core.Path.{_≡_, refl, sym, ap, _∙_}
+use mathlib.Core.Bool.{Bool, true, false}
+use mathlib.Core.Option.{Option, none, some}
+use mathlib.Core.List.{List, [], _∷_, _++_, map}
+use Prim.Native.Nat.{ℕ, zero, suc, _+_, _-_, _≤_, _<_}
+use native.Mathlib.Omega.{arith}
+use native.Mathlib.Numerals.{add-one}
+use lib.Dec.{leb}
+use lib.ListN.{length, take, drop, getD, length-map, drop-of-length-le}
+use lib.Seq.{drop-cons, length-take-le, getD-take}
+use borrow.Author.Tests.{leb-true}
+use Rattle.base.specs.Pick.{pick}
+use Rattle.base.specs.Said.{Said, gives, refuses, andThen}
+use Rattle.base.specs.Checks.{checked}
+use Rattle.entry.specs.declared.MBRPartitionEntry.{MBRPartitionEntry}
+use Rattle.entry.specs.Entry.{extended}
+use Rattle.mbr.specs.Mbr.{primaries}
+use Rattle.table.specs.declared.LogicalPartition.{LogicalPartition}
+use Rattle.table.specs.declared.MBR.{MBR}
+use Rattle.table.specs.Table.{logicals, parts, most, noLogical}
+use Rattle.lookup.specs.declared.Numbered.{Numbered}
+use Rattle.lookup.specs.Find.{holdsSays, firstAt, onward, numberOf, numberIn, numbered, amongLogicals, turned, findSays}
+
+-- a search at its end
+pub at-end : (s n : ℕ) (f : Said (Option Numbered)) → onward s f n [] ≡ f
+unfolding firstAt
+at-end s n (gives none) = refl
+at-end s n (gives (some h)) = refl
+at-end s n (refuses k) = refl
+
+-- one entry, then the others
+pub one-more : (s n : ℕ) (f : Said (Option Numbered)) (e : MBRPartitionEntry) (es : List MBRPartitionEntry)
+    → onward s f n (e ∷ es) ≡ onward s (onward s f n (e ∷ [])) (suc n) es
+unfolding firstAt
+one-more s n (gives (some h)) e es = refl
+one-more s n (refuses k) e es = refl
+one-more s n (gives none) e es = go (holdsSays s e)
+  where
+    go : (b : Said Bool)
+        → andThen b (λ b. pick b (gives (some (numbered n e))) (firstAt s (suc n) es))
+        ≡ onward s (andThen b (λ b. pick b (gives (some (numbered n e))) (gives none))) (suc n) es
+    go (gives true) = refl
+    go (gives false) = refl
+    go (refuses k) = refl
+
+-- a turn of the loop over the logical partitions
+part-at : (l : List LogicalPartition) (i : ℕ) → i < length l → drop i (parts l) ≡ getD l i noLogical .partition ∷ drop (suc i) (parts l)
+part-at [] i h = absurd (omega arith)
+part-at (x ∷ l) zero h = refl
+part-at (x ∷ l) (suc i) h = part-at l i (omega arith)
+
+pub turn : (s n i : ℕ) (f : Said (Option Numbered)) (l : List LogicalPartition) → i < length l
+    → onward s f n (drop i (parts l)) ≡ onward s (onward s f n (getD l i noLogical .partition ∷ [])) (n + 1) (drop (i + 1) (parts l))
+turn s n i f l h = rw (part-at l i h, add-one n, add-one i) (one-more s n f (getD l i noLogical .partition) (drop (suc i) (parts l)))
+
+-- the numbers that a search can answer
+pub within : (s n : ℕ) (es : List MBRPartitionEntry) (h : Numbered) → firstAt s n es ≡ gives (some h) → (n ≤ h .number) × (h .number < n + length es)
+unfolding firstAt
+within s n [] h e = let w : _≡_ {A = ℕ} 0 1 = cc in absurd (omega arith)
+within s n (x ∷ es) h e = go (holdsSays s x) (within s (suc n) es h) e
+  where
+    go : (b : Said Bool) → (firstAt s (suc n) es ≡ gives (some h) → (suc n ≤ h .number) × (h .number < suc n + length es))
+        → andThen b (λ b. pick b (gives (some (numbered n x))) (firstAt s (suc n) es)) ≡ gives (some h)
+        → (n ≤ h .number) × (h .number < n + suc (length es))
+    go (gives true) ih e =
+        let q : numbered n x ≡ h = cc in
+        let p : n ≡ h .number = ap (λ (g : Numbered). g .number) q in
+        (omega arith, omega arith)
+    go (gives false) ih e =
+        let p = ih e in
+        (omega arith, omega arith)
+    go (refuses k) ih e = let w : _≡_ {A = ℕ} 0 1 = cc in absurd (omega arith)
+
+-- a logical partition's number is one of the table's
+pub found-logical : (t : MBR) (s n : ℕ) → length (t .«logical_partitions») ≡ 24 → findSays t s ≡ gives (some n) → 5 ≤ n → (n - 5 < t .count) × (t .count ≤ 24)
+unfolding findSays amongLogicals
+found-logical t s n l e p = counted (leb (t .count) most) refl e
+  where
+    logical : t .count ≤ 24 → (f : Said (Option Numbered)) → amongLogicals t s ≡ f → numberOf f ≡ gives (some n) → n - 5 < t .count
+    logical z (gives none) q g = let w : _≡_ {A = ℕ} 0 1 = cc in absurd (omega arith)
+    logical z (gives (some h)) q g =
+        let m : h .number ≡ n = cc in
+        let w = within s 5 (parts (logicals t)) h q in
+        let k : length (parts (logicals t)) ≡ t .count = length-map (logicals t) _ ∙ length-take-le (t .count) (t .«logical_partitions») (omega arith) in
+        omega arith
+    logical z (refuses k) q g = let w : _≡_ {A = ℕ} 0 1 = cc in absurd (omega arith)
+
+    plain : t .count ≤ 24 → (b : Bool) (h : Numbered) → h .number < 5 → pick b (numberOf (amongLogicals t s)) (gives (some (h .number))) ≡ gives (some n) → n - 5 < t .count
+    plain z true h m g = logical z (amongLogicals t s) refl g
+    plain z false h m g =
+        let k : h .number ≡ n = cc in
+        absurd (omega arith)
+
+    first : t .count ≤ 24 → (f : Said (Option Numbered)) → firstAt s 1 (primaries (t .header)) ≡ f → andThen f (turned t s) ≡ gives (some n) → n - 5 < t .count
+    first z (gives none) q g = let w : _≡_ {A = ℕ} 0 1 = cc in absurd (omega arith)
+    first z (gives (some h)) q g = plain z (extended (h .entry .sys)) h (within s 1 (primaries (t .header)) h q .1) g
+    first z (refuses k) q g = let w : _≡_ {A = ℕ} 0 1 = cc in absurd (omega arith)
+
+    counted : (b : Bool) → leb (t .count) most ≡ b → pick b (andThen (firstAt s 1 (primaries (t .header))) (turned t s)) (refuses 6) ≡ gives (some n)
+        → (n - 5 < t .count) × (t .count ≤ 24)
+    counted true q g =
+        let z : t .count ≤ 24 = leb-true _ _ q in
+        (first z (firstAt s 1 (primaries (t .header))) refl g, z)
+    counted false q g = let w : _≡_ {A = ℕ} 0 1 = cc in absurd (omega arith)
+
+-- the four primaries, one after the other
+pub four : (s : ℕ) (a b c d : MBRPartitionEntry) (f₁ f₂ f₃ f₄ : Said (Option Numbered)) → f₁ ≡ onward s (gives none) 1 (a ∷ []) → f₂ ≡ onward s f₁ 2 (b ∷ [])
+    → f₃ ≡ onward s f₂ 3 (c ∷ []) → f₄ ≡ onward s f₃ 4 (d ∷ []) → f₄ ≡ firstAt s 1 (a ∷ b ∷ c ∷ d ∷ [])
+four s a b c d f₁ f₂ f₃ f₄ p q r u =
+    sym
+    (one-more s 1 (gives none) a (b ∷ c ∷ d ∷ [])
+    ∙ ap (λ (f : Said (Option Numbered)). onward s f 2 (b ∷ c ∷ d ∷ [])) (sym p)
+    ∙ one-more s 2 f₁ b (c ∷ d ∷ [])
+    ∙ ap (λ (f : Said (Option Numbered)). onward s f 3 (c ∷ d ∷ [])) (sym q)
+    ∙ one-more s 3 f₂ c (d ∷ [])
+    ∙ ap (λ (f : Said (Option Numbered)). onward s f 4 (d ∷ [])) (sym r)
+    ∙ sym u)
+
+-- the loop over the logical partitions: its start, a turn, its end
+module _ (t : MBR) (s : ℕ) where
+  abbrev ps : List MBRPartitionEntry
+  ps = parts (logicals t)
+
+  pub starts : amongLogicals t s ≡ onward s (gives none) (5 + 0) (drop 0 ps)
+  unfolding amongLogicals
+  starts = refl
+
+  pub turns : (i : ℕ) (f g : Said (Option Numbered)) → i < t .count → t .count ≤ length (t .«logical_partitions»)
+      → g ≡ onward s f (5 + i) (getD (t .«logical_partitions») i noLogical .partition ∷ [])
+      → onward s f (5 + i) (drop i ps) ≡ onward s g (5 + (i + 1)) (drop (i + 1) ps)
+  turns i f g h l e =
+      let k : length (logicals t) ≡ t .count = length-take-le (t .count) (t .«logical_partitions») l in
+      let m : i < length (logicals t) = omega arith in
+      let x : getD (logicals t) i noLogical ≡ getD (t .«logical_partitions») i noLogical = getD-take (t .count) (t .«logical_partitions») i noLogical h in
+      let y : 5 + i + 1 ≡ 5 + (i + 1) = omega arith in
+      turn s (5 + i) i f (logicals t) m
+      ∙ ap (λ (p : LogicalPartition). onward s (onward s f (5 + i) (p .partition ∷ [])) (5 + i + 1) (drop (i + 1) ps)) x
+      ∙ ap (λ (n : ℕ). onward s (onward s f (5 + i) (getD (t .«logical_partitions») i noLogical .partition ∷ [])) n (drop (i + 1) ps)) y
+      ∙ ap (λ (q : Said (Option Numbered)). onward s q (5 + (i + 1)) (drop (i + 1) ps)) (sym e)
+
+  pub ends : (i : ℕ) (f : Said (Option Numbered)) → t .count ≤ i → t .count ≤ length (t .«logical_partitions») → onward s f (5 + i) (drop i ps) ≡ f
+  ends i f h l =
+      let k : length (logicals t) ≡ t .count = length-take-le (t .count) (t .«logical_partitions») l in
+      let m : length ps ≤ i = omega (arith, length-map (logicals t) (λ (p : LogicalPartition). p .partition)) in
+      ap (onward s f (5 + i)) (drop-of-length-le ps m) ∙ at-end s (5 + i) f

@@ -1,0 +1,4 @@
+pub mod Numbers
+pub mod Find
+pub mod Remove
+pub mod Disk

@@ -1,0 +1,58 @@
+-- Partition numbers: none for 0, a primary for 1 to 4, a logical partition for 5 and up. Assumes nothing.
+use Prim.Native.Nat.{ℕ, _+_, _-_}
+use mathlib.Core.List.{List, [], _∷_}
+use mathlib.Core.Bool.{Bool}
+use mathlib.Core.Option.{Option, none, some}
+use lib.Dec.{eqb, ltb, leb}
+use lib.ListN.{getD}
+use Rattle.base.specs.Pick.{pick}
+use Rattle.base.specs.Said.{Said, gives, refuses}
+use Rattle.base.specs.Checks.{Check, _!_, answer}
+use Rattle.entry.specs.declared.MBRPartitionEntry.{MBRPartitionEntry}
+use Rattle.mbr.specs.Mbr.{primaryOf}
+use Rattle.table.specs.declared.MBR.{MBR}
+use Rattle.table.specs.Table.{most, noLogical}
+use Rattle.lookup.specs.declared.Kind.{Kind}
+use Rattle.lookup.specs.declared.Kind.the-variants.{Nothing as NoKind, Primary, Logical}
+use Rattle.lookup.specs.declared.Got.{Got}
+use Rattle.lookup.specs.declared.Got.the-variants.{Nothing, Entry, Refused}
+use Rattle.lookup.specs.declared.Count.{Count}
+use Rattle.lookup.specs.declared.Count.the-variants.{Is, Refused as CountRefused}
+
+-- a table handed in with a count over 24 is refused first
+abbrev pub countCheck : MBR → Check
+countCheck t = 6 ! leb (t .count) most
+
+-- the decision over the numbers
+abbrev pub kindOf : ℕ → Kind
+kindOf i = pick (eqb i 0) NoKind (pick (ltb i 5) (Primary i) (Logical (i - 5)))
+
+-- the entry of logical partition number k, counted from 0
+abbrev pub logicalOf : MBR → ℕ → Option MBRPartitionEntry
+logicalOf t k = pick (ltb k (t .count)) (some (getD (t .«logical_partitions») k noLogical .partition)) none
+
+abbrev pub ofKind : MBR → Kind → Option MBRPartitionEntry
+ofKind t NoKind = none
+ofKind t (Primary i) = primaryOf (t .header) i
+ofKind t (Logical k) = logicalOf t k
+
+-- the entry of a number, or none
+abbrev pub entryOf : MBR → ℕ → Option MBRPartitionEntry
+entryOf t i = ofKind t (kindOf i)
+
+abbrev pub getSays : MBR → ℕ → Said (Option MBRPartitionEntry)
+getSays t i = answer (countCheck t ∷ []) (entryOf t i)
+
+-- primaries and logical partitions together
+abbrev pub lenSays : MBR → Said ℕ
+lenSays t = answer (countCheck t ∷ []) (4 + t .count)
+
+-- what the answers say
+abbrev pub gotSaid : Got → Said (Option MBRPartitionEntry)
+gotSaid Nothing = gives none
+gotSaid (Entry e) = gives (some e)
+gotSaid (Refused k) = refuses k
+
+abbrev pub countSaid : Count → Said ℕ
+countSaid (Is n) = gives n
+countSaid (CountRefused k) = refuses k

@@ -1,2 +1,4 @@
 pub mod View
 pub mod Rows
+pub mod Steps
+pub mod Slots

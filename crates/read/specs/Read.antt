@@ -1,9 +1,9 @@
 -- Reading a table from the disk that an extract stands for: 1, 2, 3, 4, chain, 7. Assumes nothing.
-use Prim.Native.Nat.{ℕ, _-_}
+use Prim.Native.Nat.{ℕ}
 use mathlib.Core.List.{List, [], _∷_, _++_}
 use mathlib.Core.Option.{Option}
 use lib.Dec.{ltb}
-use lib.ListN.{length, replicate}
+use lib.ListN.{length}
 use Rattle.base.specs.Said.{Said, gives, refuses, andThen, failure, valueOr}
 use Rattle.base.specs.Checks.{_!_, checked, answer}
 use Rattle.mbr.specs.declared.MBRHeader.{MBRHeader}
@@ -13,7 +13,8 @@ use Rattle.extract.specs.Extract.{diskOf}
 use Rattle.extract.specs.Answers.{checkSays}
 use Rattle.table.specs.declared.LogicalPartition.{LogicalPartition}
 use Rattle.table.specs.declared.MBR.{MBR}
-use Rattle.table.specs.Table.{most, defaultAlign, parts, emptySlot}
+use Rattle.table.specs.Table.{defaultAlign, parts}
+pub use Rattle.table.specs.Table.{slots}
 use Rattle.chain.specs.Chain.{view, logicalsOf}
 use Rattle.align.specs.Align.{usedStarts, alignment}
 
@@ -47,10 +48,6 @@ readSays x = andThen (checkSays x) (λ e. read (diskOf x))
 -- its header alone
 unfoldable pub headerSays : List ℕ → Said MBRHeader
 headerSays x = andThen (checkSays x) (λ e. headerOn (diskOf x))
-
--- logical partitions in an array with unused slots behind them
-unfoldable pub slots : List LogicalPartition → List LogicalPartition
-slots ls = ls ++ replicate (most - length ls) emptySlot
 
 -- the table by value: no geometry
 unfoldable pub tableOf : Table → MBR

@@ -1,1 +1,230 @@
 // A table, read from an extract.
+use align::Aligned;
+use align::Starts;
+use base::Answer;
+use chain::Logicals;
+use extract::Extract;
+use extract::Header;
+use extract::Outcome;
+use extract::Refusal;
+use mbr::Found;
+use mbr::MBRHeader;
+use table::LOGICALS;
+use table::LogicalPartition;
+use table::MBR;
+ghost use mathlib.Core.Path.{_≡_};
+ghost use mathlib.Core.List.{List, [], _++_};
+ghost use mathlib.Core.Option.{some};
+ghost use Prim.Native.Nat.{_+_, _≤_, _<_};
+ghost use lib.ListN.{length, take};
+ghost use Rattle.base.specs.Said.{gives, refuses, andThen, failure, valueOr};
+ghost use Rattle.mbr.specs.Mbr.{noHeader, primaries, extendedOf, found};
+ghost use Rattle.extract.specs.Extract.{Good, count, diskSectors, diskOf};
+ghost use Rattle.extract.specs.Answers.{outcomeSaid, headerOf};
+ghost use Rattle.table.specs.Table.{parts, slots};
+ghost use Rattle.chain.specs.Chain.{view, logicalsOf};
+ghost use Rattle.chain.specs.Thin.{told};
+ghost use Rattle.align.specs.Align.{usedStarts, alignment, startsIn};
+ghost use Rattle.read.specs.Read.{headerOn, withChain, read, readSays, headerSays, noTable, tableFor};
+ghost use Rattle.read.specs.Answers.{headerTold, tableTold, finished, startsRead};
+
+// A header, or a refusal with an empty one.
+pub struct HeaderRead {
+    pub answer: Outcome,
+    pub header: MBRHeader,
+}
+
+// A table, or a refusal with an empty one.
+pub struct ReadAnswer {
+    pub answer: Outcome,
+    pub table: MBR,
+}
+
+fn no_header(k: u8) -> HeaderRead
+    ensures { λ r. ⌜ r ≡ headerTold (refuses k) ⌝ }
+{
+    HeaderRead {
+        answer: Outcome::Refused(Refusal { number: k }),
+        header: MBRHeader::new([0u8; 4]),
+    }
+}
+
+// The header of a checked extract: 2, 3, 4. A sector without a record is blank: 3.
+fn header_of(x: &[u8], n: usize, d: u32) -> HeaderRead
+    requires { ⌜ (n ≡ count (now x)) × Good (now x) ⌝ }
+    requires { ⌜ d ≡ diskSectors (now x) ⌝ }
+    ensures { λ r. ⌜ r ≡ headerTold (headerOn (diskOf (now (x .entry)))) ⌝ }
+{
+    if d == 0 {
+        return no_header(2);
+    }
+    let r = extract::record_of(x, n, 0);
+    if r.len() == 0 {
+        return no_header(3);
+    }
+    let a = MBRHeader::read(r);
+    let answer = a.answer;
+    match answer {
+        Answer::Refused(k) => no_header(k),
+        Answer::Done => {
+            let header = a.header;
+            HeaderRead {
+                answer: Outcome::Done,
+                header: header,
+            }
+        }
+    }
+}
+
+// The header alone, from an extract: 1, 2, 3, 4.
+pub fn read_header(x: &[u8]) -> HeaderRead
+    ensures { λ r. ⌜ outcomeSaid (r .answer) ≡ failure (headerSays (now (x .entry))) ⌝ }
+    ensures { λ r. ⌜ r .header ≡ valueOr noHeader (headerSays (now (x .entry))) ⌝ }
+{
+    match extract::check(x) {
+        Header::Refused(r) => no_header(r.number),
+        Header::Good(e) => header_of(x, e.count, e.disk_size),
+    }
+}
+
+fn no_table(k: u8) -> ReadAnswer
+    ensures { λ r. ⌜ r ≡ tableTold (refuses k) ⌝ }
+{
+    let header = MBRHeader::new([0u8; 4]);
+    let none = LogicalPartition::empty();
+    let slots = [none; LOGICALS];
+    let table = MBR {
+        sector_size: 0,
+        header: header,
+        logical_partitions: slots,
+        count: 0,
+        align: MBR::DEFAULT_ALIGN,
+        cylinders: 0,
+        heads: 0,
+        sectors: 0,
+        disk_size: 0,
+    };
+    ReadAnswer {
+        answer: Outcome::Refused(Refusal { number: k }),
+        table: table,
+    }
+}
+
+// The used starts of the four primary entries.
+fn primary_starts(h: MBRHeader) -> Starts
+    ensures { λ r. ⌜ (startsIn r ≡ usedStarts (primaries h)) × (r .count ≤ 4) ⌝ }
+{
+    let none = Starts::new();
+    let one = h.partition_1;
+    let first = none.with(one);
+    let two = h.partition_2;
+    let second = first.with(two);
+    let three = h.partition_3;
+    let third = second.with(three);
+    let four = h.partition_4;
+    third.with(four)
+}
+
+// The used starts of the header and of n logical partitions.
+fn starts_of(h: MBRHeader, ls: [LogicalPartition; LOGICALS], n: usize) -> Starts
+    requires { ⌜ n ≤ 24 ⌝ }
+    ensures { λ r. ⌜ (startsIn r ≡ startsRead h ls n) × (r .count ≤ 28) ⌝ }
+{
+    let mut all = primary_starts(h);
+    for i in 0..n {
+        let l = ls[i];
+        let p = l.partition;
+        all = all.with(p);
+    }
+    all
+}
+
+// The table of a header and its logical partitions: no alignment is 7.
+fn finish(e: Extract, header: MBRHeader, l: Logicals) -> ReadAnswer
+    requires { ⌜ l .count ≤ 24 ⌝ }
+    ensures { λ r. ⌜ r ≡ finished (e .«sector_size») (e .«disk_size») header l (alignment (startsRead header (l .logicals) (l .count))) ⌝ }
+{
+    let ls = l.logicals;
+    let starts = starts_of(header, ls, l.count);
+    match starts.alignment() {
+        Aligned::Refused(k) => no_table(k),
+        Aligned::Align(a) => {
+            let table = MBR {
+                sector_size: e.sector_size,
+                header: header,
+                logical_partitions: ls,
+                count: l.count,
+                align: a,
+                cylinders: 0,
+                heads: 0,
+                sectors: 0,
+                disk_size: e.disk_size,
+            };
+            ReadAnswer {
+                answer: Outcome::Done,
+                table: table,
+            }
+        }
+    }
+}
+
+// The logical partitions of the extended entry, if there is one.
+fn logicals_of(x: &[u8], n: usize, d: u32, extended: Found) -> Logicals
+    requires { ⌜ (n ≡ count (now x)) × Good (now x) ⌝ }
+    requires { ⌜ d ≡ diskSectors (now x) ⌝ }
+    ensures { λ r. ⌜ r ≡ told (logicalsOf (view (diskOf (now (x .entry)))) (found extended)) ⌝ }
+{
+    match extended {
+        Found::Nothing => {
+            let none = LogicalPartition::empty();
+            let slots = [none; LOGICALS];
+            Logicals {
+                answer: Outcome::Done,
+                logicals: slots,
+                count: 0,
+            }
+        }
+        Found::Entry(e) => chain::read_logicals(x, n, d, e),
+    }
+}
+
+// The header with its chain.
+fn with_chain(x: &[u8], e: Extract, header: MBRHeader) -> ReadAnswer
+    requires { ⌜ (e ≡ headerOf (now x)) × Good (now x) ⌝ }
+    ensures { λ r. ⌜ r ≡ tableTold (withChain (diskOf (now (x .entry))) header) ⌝ }
+{
+    let extended = header.get_extended_partition();
+    let l = logicals_of(x, e.count, e.disk_size, extended);
+    let answer = l.answer;
+    match answer {
+        Outcome::Refused(r) => no_table(r.number),
+        Outcome::Done => finish(e, header, l),
+    }
+}
+
+// The table of a checked extract.
+fn read_good(x: &[u8], e: Extract) -> ReadAnswer
+    requires { ⌜ (e ≡ headerOf (now x)) × Good (now x) ⌝ }
+    ensures { λ r. ⌜ r ≡ tableTold (read (diskOf (now (x .entry)))) ⌝ }
+{
+    let h = header_of(x, e.count, e.disk_size);
+    let answer = h.answer;
+    match answer {
+        Outcome::Refused(r) => no_table(r.number),
+        Outcome::Done => {
+            let header = h.header;
+            with_chain(x, e, header)
+        }
+    }
+}
+
+// The table, from an extract: 1, 2, 3, 4, the chain's refusals, 7.
+pub fn read_from(x: &[u8]) -> ReadAnswer
+    ensures { λ r. ⌜ outcomeSaid (r .answer) ≡ failure (readSays (now (x .entry))) ⌝ }
+    ensures { λ r. ⌜ r .table ≡ tableFor (readSays (now (x .entry))) ⌝ }
+{
+    match extract::check(x) {
+        Header::Refused(r) => no_table(r.number),
+        Header::Good(e) => read_good(x, e),
+    }
+}

@@ -63,6 +63,10 @@ emptySlot =
       kept = noKept;
     }
 
+-- logical partitions in an array with unused slots behind them
+unfoldable pub slots : List LogicalPartition → List LogicalPartition
+slots ls = ls ++ replicate (most - length ls) emptySlot
+
 -- the first extended primary entry
 abbrev pub extendedIn : MBR → Option MBRPartitionEntry
 extendedIn t = extendedOf (primaries (t .header))

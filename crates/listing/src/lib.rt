@@ -170,3 +170,22 @@ pub fn list_table(t: MBR, out: &mut [u8]) -> Listed
     }
     Listed::Length(put_table(out, t))
 }
+
+// The listing of the table that an extract reads as, or its refusal: 19 only.
+pub fn listing(x: &[u8], out: &mut [u8]) -> Listed
+    ensures { λ r. ⌜ listed r ≡ answer (listingChecks (length (now (out .entry)))) (length (listing (now (x .entry)))) ⌝ }
+    ensures { λ r. ⌜ now (out .exit) ≡ checked (listingChecks (length (now (out .entry)))) (λ _. now (out .entry)) (put (now (out .entry)) 0 (listing (now (x .entry)))) ⌝ }
+{
+    if out.len() < 2048 {
+        return Listed::Refused(19);
+    }
+    let read = read::read_from(x);
+    let said = read.answer;
+    match said {
+        Outcome::Refused(k) => Listed::Length(put_refused(out, k.number)),
+        Outcome::Done => {
+            let t = read.table;
+            Listed::Length(put_table(out, t))
+        }
+    }
+}

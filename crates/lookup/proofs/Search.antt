@@ -5,6 +5,7 @@ use mathlib.Core.Option.{Option, none, some}
 use mathlib.Core.List.{List, [], _∷_, _++_, map}
 use Prim.Native.Nat.{ℕ, zero, suc, _+_, _-_, _≤_, _<_}
 use native.Mathlib.Omega.{arith}
+use native.Mathlib.Nat.{add-zero}
 use native.Mathlib.Numerals.{add-one}
 use lib.Dec.{leb}
 use lib.ListN.{length, take, drop, getD, length-map, drop-of-length-le}
@@ -20,7 +21,7 @@ use Rattle.table.specs.declared.LogicalPartition.{LogicalPartition}
 use Rattle.table.specs.declared.MBR.{MBR}
 use Rattle.table.specs.Table.{logicals, parts, most, noLogical}
 use Rattle.lookup.specs.declared.Numbered.{Numbered}
-use Rattle.lookup.specs.Find.{holdsSays, firstAt, onward, numberOf, numberIn, numbered, amongLogicals, turned, findSays}
+use Rattle.lookup.specs.Find.{holdsSays, firstAt, onward, numberOf, numberIn, numbered, amongLogicals, turned, findSays, First, Outside}
 
 -- a search at its end
 pub at-end : (s n : ℕ) (f : Said (Option Numbered)) → onward s f n [] ≡ f
@@ -144,3 +145,45 @@ module _ (t : MBR) (s : ℕ) where
       let k : length (logicals t) ≡ t .count = length-take-le (t .count) (t .«logical_partitions») l in
       let m : length ps ≤ i = omega (arith, length-map (logicals t) (λ (p : LogicalPartition). p .partition)) in
       ap (onward s f (5 + i)) (drop-of-length-le ps m) ∙ at-end s (5 + i) f
+
+-- what a search finds is the first that holds the sector
+pub first-found : (s n : ℕ) (es : List MBRPartitionEntry) (h : Numbered) → firstAt s n es ≡ gives (some h) → First s n es h
+unfolding firstAt
+first-found s n [] h e = let w : _≡_ {A = ℕ} 0 1 = cc in absurd (omega arith)
+first-found s n (x ∷ es) h e = go (holdsSays s x) refl (first-found s (suc n) es h) e
+  where
+    go : (b : Said Bool) → holdsSays s x ≡ b → (firstAt s (suc n) es ≡ gives (some h) → First s (suc n) es h)
+        → andThen b (λ b. pick b (gives (some (numbered n x))) (firstAt s (suc n) es)) ≡ gives (some h) → First s n (x ∷ es) h
+    go (gives true) q ih e =
+        let k : numbered n x ≡ h = cc in
+        record {
+          before = [];
+          behind = es;
+          parts = ap (λ (g : Numbered). g .entry ∷ es) k;
+          number = sym (ap (λ (g : Numbered). g .number) k) ∙ sym (add-zero n);
+          outside = tt;
+          holds = ap (λ (g : Numbered). holdsSays s (g .entry)) (sym k) ∙ q;
+        }
+    go (gives false) q ih e =
+        let f : First s (suc n) es h = ih e in
+        record {
+          before = x ∷ f .before;
+          behind = f .behind;
+          parts = ap (_∷_ x) (f .parts);
+          number = f .number ∙ (omega arith);
+          outside = (q, f .outside);
+          holds = f .holds;
+        }
+    go (refuses k) q ih e = let w : _≡_ {A = ℕ} 0 1 = cc in absurd (omega arith)
+
+-- none is found exactly where none holds the sector
+pub none-found : (s n : ℕ) (es : List MBRPartitionEntry) → firstAt s n es ≡ gives none → Outside s es
+unfolding firstAt
+none-found s n [] e = tt
+none-found s n (x ∷ es) e = go (holdsSays s x) refl (none-found s (suc n) es) e
+  where
+    go : (b : Said Bool) → holdsSays s x ≡ b → (firstAt s (suc n) es ≡ gives none → Outside s es)
+        → andThen b (λ b. pick b (gives (some (numbered n x))) (firstAt s (suc n) es)) ≡ gives none → (holdsSays s x ≡ gives false) × Outside s es
+    go (gives true) q ih e = let w : _≡_ {A = ℕ} 0 1 = cc in absurd (omega arith)
+    go (gives false) q ih e = (q, ih e)
+    go (refuses k) q ih e = let w : _≡_ {A = ℕ} 0 1 = cc in absurd (omega arith)

@@ -1,14 +1,16 @@
 -- The partition that holds a sector: primaries in order, then logical partitions if the hit is extended. Assumes nothing.
 use Prim.Native.Nat.{ℕ, suc, _+_, _^_}
-use mathlib.Core.List.{List, [], _∷_}
+use mathlib.Core.List.{List, [], _∷_, _++_}
 use mathlib.Core.Bool.{Bool, true, false}
 use mathlib.Core.Option.{Option, none, some}
+use mathlib.Core.Path.{_≡_}
+use lib.ListN.{length}
 use lib.Dec.{ltb, leb}
 use Rattle.base.specs.Pick.{pick}
 use Rattle.base.specs.Said.{Said, gives, refuses, andThen}
 use Rattle.base.specs.Checks.{_!_, answer, checked}
 use Rattle.entry.specs.declared.MBRPartitionEntry.{MBRPartitionEntry}
-use Rattle.entry.specs.Entry.{used, extended}
+use Rattle.entry.specs.Entry.{used, extended, endOf}
 use Rattle.mbr.specs.Mbr.{primaries}
 use Rattle.table.specs.declared.MBR.{MBR}
 use Rattle.table.specs.Table.{logicals, parts}
@@ -20,10 +22,6 @@ use Rattle.lookup.specs.declared.Hit.{Hit}
 use Rattle.lookup.specs.declared.Hit.the-variants.{Nothing as NoHit, At, Refused as HitRefused}
 use Rattle.lookup.specs.declared.Spot.{Spot}
 use Rattle.lookup.specs.declared.Spot.the-variants.{Nothing, Number, Refused}
-
--- the sector behind an entry's last
-abbrev pub endOf : MBRPartitionEntry → ℕ
-endOf e = e .«starting_lba» + e .sectors
 
 -- does an entry hold a sector; its end is formed only if the entry is used and starts at or before the sector, beyond u32 7
 unfoldable pub holdsSays : ℕ → MBRPartitionEntry → Said Bool
@@ -80,3 +78,17 @@ abbrev pub onward : ℕ → Said (Option Numbered) → ℕ → List MBRPartition
 onward s (gives none) n es = firstAt s n es
 onward s (gives (some h)) n es = gives (some h)
 onward s (refuses k) n es = refuses k
+
+-- none of the entries holds the sector, and none of their ends is beyond u32
+abbrev pub Outside : ℕ → List MBRPartitionEntry → Type 0
+Outside s [] = Unit {0}
+Outside s (e ∷ es) = (holdsSays s e ≡ gives false) × Outside s es
+
+-- h is the first of the entries, numbered from n on, that holds the sector
+pub record First (s n : ℕ) (es : List MBRPartitionEntry) (h : Numbered) : Type 0 where
+  pub before : List MBRPartitionEntry
+  pub behind : List MBRPartitionEntry
+  pub parts : es ≡ before ++ h .entry ∷ behind
+  pub number : h .number ≡ n + length before
+  pub outside : Outside s before
+  pub holds : holdsSays s (h .entry) ≡ gives true

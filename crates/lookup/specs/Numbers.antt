@@ -1,5 +1,5 @@
 -- Partition numbers: none for 0, a primary for 1 to 4, a logical partition for 5 and up. Assumes nothing.
-use Prim.Native.Nat.{ℕ, _+_, _-_}
+use Prim.Native.Nat.{ℕ, zero, suc, _+_, _-_}
 use mathlib.Core.List.{List, [], _∷_}
 use mathlib.Core.Bool.{Bool}
 use mathlib.Core.Option.{Option, none, some}
@@ -46,6 +46,12 @@ getSays t i = answer (countCheck t ∷ []) (entryOf t i)
 -- primaries and logical partitions together
 abbrev pub lenSays : MBR → Said ℕ
 lenSays t = answer (countCheck t ∷ []) (4 + t .count)
+
+-- element number k of a list, counted from 0
+unfoldable pub nth : {A : Type 0} → List A → ℕ → Option A
+nth [] k = none
+nth (x ∷ xs) zero = some x
+nth (x ∷ xs) (suc k) = nth xs k
 
 -- what the answers say
 abbrev pub gotSaid : Got → Said (Option MBRPartitionEntry)

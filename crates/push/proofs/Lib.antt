@@ -1,2 +1,4 @@
 pub mod Numbers
 pub mod Laws
+pub mod Steps
+pub mod Answers

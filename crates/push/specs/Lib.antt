@@ -1,3 +1,4 @@
 pub mod Address
 pub mod Push
+pub mod Answers
 pub mod Remove

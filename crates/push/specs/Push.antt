@@ -18,15 +18,9 @@ use Rattle.table.specs.declared.LogicalPartition.{LogicalPartition}
 use Rattle.table.specs.declared.MBR.{MBR}
 use Rattle.table.specs.Table.{most, extendedIn, withLogicals}
 use Rattle.push.specs.declared.Geometry.{Geometry}
-use Rattle.push.specs.Address.{complete, fits, updateChecks, addressed}
-
 -- what is asked for: alignment, geometry, type, start and sectors
-pub record Request : Type 0 where
-  pub align : ℕ
-  pub geometry : Geometry
-  pub sys : ℕ
-  pub start : ℕ
-  pub sectors : ℕ
+pub use Rattle.push.specs.declared.Request.{Request}
+use Rattle.push.specs.Address.{complete, fits, updateChecks, addressed}
 
 -- a number above 0 rounded up to a multiple of the alignment
 unfoldable pub rounded : ℕ → ℕ → ℕ

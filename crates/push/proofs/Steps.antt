@@ -1,0 +1,225 @@
+-- The steps of push and update_chs, as the code takes them. Assumes nothing.
+use mathlib.Core.Path.{_≡_, refl, ap, sym, _∙_}
+use mathlib.Core.Bool.{Bool, true, false}
+use mathlib.Core.Option.{Option, none, some}
+use mathlib.Core.List.{List, [], _∷_, _++_, append-assoc}
+use Prim.Native.Nat.{ℕ, _+_, _*_, _-_, _/_, _≤_, _<_, _^_}
+use native.Mathlib.Omega.{arith}
+use native.Mathlib.Nat.{div-le-self, mul-le-mul, lt-of-le-of-lt, pos-of-ne-zero}
+use lib.Dec.{ltb, leb, lit<}
+use lib.ListN.{set}
+use borrow.Author.Tests.{ltb-true, leb-true, lt-ltb, le-ltb, le-leb}
+use Rattle.base.specs.Pick.{pick}
+use Rattle.base.specs.Said.{Said, gives, refuses, andThen, failure, valueOr}
+use Rattle.base.specs.Checks.{Check, _!_, checked, answer, first-fail}
+use Rattle.base.proofs.Checks.{append-fails, append-holds, none-fails, checked-some, checked-none, answer-gives}
+use Rattle.chs.specs.declared.CHS.{CHS}
+use Rattle.chs.specs.Chs.{exact}
+use Rattle.entry.specs.declared.MBRPartitionEntry.{MBRPartitionEntry}
+use Rattle.table.specs.declared.MaybeChs.{MaybeChs}
+use Rattle.table.specs.declared.LogicalPartition.{LogicalPartition}
+use Rattle.table.specs.declared.MBR.{MBR}
+use Rattle.table.specs.Table.{most, extendedIn, withLogicals}
+use Rattle.push.specs.declared.Geometry.{Geometry}
+use Rattle.push.specs.declared.Place.{Place}
+use Rattle.push.specs.Address.{fits, addressChecks, lastChecks, linkChecks, addressIn, linkAddress, addressed, updateChecks, updateChs}
+use Rattle.push.specs.Push.{Request, placeOf, sizeOf, roundChecks, placeChecks, endChecks, geometryChecks, pushChecks, tableChecks, laterThan, newLogical, requestOf, pushSays, pushTable, pushedTo}
+use Rattle.push.specs.Answers.{settled, withAddresses, atPlace}
+use Rattle.push.proofs.Laws.{update-steps}
+
+-- a value that checks give, and what goes on with it
+pub and-answer : {A B : Type 0} (cs : List Check) (a : A) (f : A → Said B) → andThen (answer cs a) f ≡ checked cs refuses (f a)
+and-answer [] a f = refl
+and-answer (c ∷ cs) a f = go (c .holds) (and-answer cs a f)
+  where
+    go : (b : Bool) → andThen (answer cs a) f ≡ checked cs refuses (f a)
+        → andThen (pick b (answer cs a) (refuses (c .number))) f ≡ pick b (checked cs refuses (f a)) (refuses (c .number))
+    go true ih = ih
+    go false ih = refl
+
+-- update_chs is its four addresses, one after the other
+module _ (g : Geometry) (l : LogicalPartition) where
+  abbrev start : ℕ
+  start = l .partition .«starting_lba»
+
+  abbrev size : ℕ
+  size = l .partition .sectors
+
+  abbrev place : ℕ
+  place = l .«absolute_ebr_lba» .0
+
+  abbrev first : Said CHS
+  first = exact start (g .cylinders) (g .heads) (g .sectors)
+
+  abbrev last : Said CHS
+  last = answer (lastChecks g start size) (addressIn g (start + size - 1))
+
+  abbrev link : Said CHS
+  link = exact place (g .cylinders) (g .heads) (g .sectors)
+
+  abbrev end : Said MaybeChs
+  end = answer (linkChecks g place (l .«ebr_sectors»)) (linkAddress g place (l .«ebr_sectors»))
+
+  abbrev with : CHS → CHS → CHS → MaybeChs → LogicalPartition
+  with = withAddresses l
+
+  pub update-settled : updateChs g l ≡ settled l first last link end
+  unfolding addressed
+  update-settled =
+      update-steps g l
+      ∙ sym
+      (and-answer (addressChecks g start) (addressIn g start) (λ a. andThen last (λ b. andThen link (λ c. andThen end (λ d. gives (with a b c d)))))
+      ∙ ap (checked (addressChecks g start) refuses)
+      (and-answer (lastChecks g start size) (addressIn g (start + size - 1)) (λ b. andThen link (λ c. andThen end (λ d. gives (with (addressIn g start) b c d))))
+      ∙ ap (checked (lastChecks g start size) refuses)
+      (and-answer (addressChecks g place) (addressIn g place) (λ c. andThen end (λ d. gives (with (addressIn g start) (addressIn g (start + size - 1)) c d)))
+      ∙ ap (checked (addressChecks g place) refuses)
+      (and-answer
+      (linkChecks g place (l .«ebr_sectors»))
+      (linkAddress g place (l .«ebr_sectors»))
+      (λ d. gives (with (addressIn g start) (addressIn g (start + size - 1)) (addressIn g place) d))))))
+
+-- push's refusals, part by part
+fail-left : (cs ds : List Check) (k : ℕ) → first-fail cs ≡ some k → first-fail (cs ++ ds) ≡ some k
+fail-left cs ds k e = append-fails cs ds k some none e
+
+pub fail-right : (cs ds : List Check) → first-fail cs ≡ none → first-fail (cs ++ ds) ≡ first-fail ds
+fail-right cs ds e = append-holds cs ds some none (none-fails cs e)
+
+module _ (q : Request) (e : MBRPartitionEntry) (n : ℕ) where
+  abbrev R : List Check
+  R = (8 ! true) ∷ roundChecks q
+
+  abbrev P : List Check
+  P = placeChecks q e
+
+  abbrev E : List Check
+  E = endChecks (laterThan n) q e
+
+  abbrev A : List Check
+  A = geometryChecks (laterThan n) q
+
+  abbrev C : List Check
+  C = (6 ! ltb n most) ∷ []
+
+  pub fails-round : (k : ℕ) → first-fail (roundChecks q) ≡ some k → first-fail (pushChecks q (some e) n) ≡ some k
+  unfolding pushChecks
+  fails-round k r = fail-left (R ++ P ++ E ++ A) C k (fail-left (R ++ P ++ E) A k (fail-left (R ++ P) E k (fail-left R P k r)))
+
+  pub fails-place : (k : ℕ) → first-fail (roundChecks q) ≡ none → first-fail P ≡ some k → first-fail (pushChecks q (some e) n) ≡ some k
+  unfolding pushChecks
+  fails-place k r p = fail-left (R ++ P ++ E ++ A) C k (fail-left (R ++ P ++ E) A k (fail-left (R ++ P) E k (fail-right R P r ∙ p)))
+
+  place-holds : first-fail (roundChecks q) ≡ none → first-fail P ≡ none → first-fail (R ++ P) ≡ none
+  place-holds r p = fail-right R P r ∙ p
+
+  pub fails-end : (k : ℕ) → first-fail (roundChecks q) ≡ none → first-fail P ≡ none → first-fail E ≡ some k → first-fail (pushChecks q (some e) n) ≡ some k
+  unfolding pushChecks
+  fails-end k r p s = fail-left (R ++ P ++ E ++ A) C k (fail-left (R ++ P ++ E) A k (fail-right (R ++ P) E (place-holds r p) ∙ s))
+
+  pub fails-rest : first-fail (roundChecks q) ≡ none → first-fail P ≡ none → first-fail E ≡ none → first-fail (pushChecks q (some e) n) ≡ first-fail (A ++ C)
+  unfolding pushChecks
+  fails-rest r p s =
+      ap first-fail (append-assoc (R ++ P ++ E) A C) ∙ fail-right (R ++ P ++ E) (A ++ C) (fail-right (R ++ P) E (place-holds r p) ∙ s)
+
+  -- at a place that serves, no sum leaves u32
+  pub place-fits : first-fail P ≡ none → (placeOf q + q .align < 2 ^ 32) × (q .align ≤ sizeOf q)
+  unfolding placeChecks
+  place-fits p =
+      let h = none-fails P p in
+      let a : 2 * q .align ≤ sizeOf q = leb-true _ _ (h .1 .0) in
+      (ltb-true _ _ (h .1 .1 .0), omega arith)
+
+-- the addresses, then the 25th
+module _ (q : Request) (n : ℕ) where
+  abbrev a : List Check
+  a = geometryChecks (laterThan n) q
+
+  pub fails-address : (k : ℕ) → first-fail a ≡ some k → first-fail (a ++ (6 ! ltb n most) ∷ []) ≡ some k
+  fails-address k f = fail-left a ((6 ! ltb n most) ∷ []) k f
+
+  pub fails-count : first-fail a ≡ none → 24 ≤ n → first-fail (a ++ (6 ! ltb n most) ∷ []) ≡ some 6
+  fails-count f h =
+      let g : ltb n 24 ≡ false = le-ltb n 24 h in
+      fail-right a ((6 ! ltb n most) ∷ []) f ∙ rw g
+
+  pub fails-none : first-fail a ≡ none → n < 24 → first-fail (a ++ (6 ! ltb n most) ∷ []) ≡ none
+  fails-none f h =
+      let g : ltb n 24 ≡ true = lt-ltb n 24 h in
+      fail-right a ((6 ! ltb n most) ∷ []) f ∙ rw g
+
+-- a test against 0
+pub is-zero : (n : ℕ) → n ≡ 0 → ltb 0 n ≡ false
+is-zero n e = le-ltb 0 n (omega arith)
+
+pub not-zero : (n : ℕ) → (n ≡ 0 → ⊥) → ltb 0 n ≡ true
+not-zero n e = lt-ltb 0 n (pos-of-ne-zero e)
+
+-- what rounding gives
+pub rounds : (q : Request) (p : Place) → answer (roundChecks q) (atPlace (placeOf q) (sizeOf q)) ≡ gives p
+    → (first-fail (roundChecks q) ≡ none) × (p .at ≡ placeOf q) × (p .size ≡ sizeOf q)
+rounds q p h =
+    let g = answer-gives (roundChecks q) (atPlace (placeOf q) (sizeOf q)) p h in
+    (g .0, sym (ap (λ (x : Place). x .at) (g .1)), sym (ap (λ (x : Place). x .size) (g .1)))
+
+-- what update_chs says
+pub update-failure : (g : Geometry) (l : LogicalPartition) → failure (updateChs g l) ≡ first-fail (updateChecks g l)
+unfolding updateChs
+update-failure g l = failed (updateChecks g l) (addressed g l)
+  where
+    failed : {A : Type 0} (cs : List Check) (a : A) → failure (answer cs a) ≡ first-fail cs
+    failed [] a = refl
+    failed (c ∷ cs) a = go (c .holds) (failed cs a)
+      where
+        go : (b : Bool) → failure (answer cs a) ≡ first-fail cs → failure (pick b (answer cs a) (refuses (c .number))) ≡ pick b (first-fail cs) (some (c .number))
+        go true ih = ih
+        go false ih = refl
+
+pub update-gives : (g : Geometry) (l : LogicalPartition) → first-fail (updateChecks g l) ≡ none → valueOr l (updateChs g l) ≡ addressed g l
+unfolding updateChs
+update-gives g l h = ap (valueOr l) (checked-none (updateChecks g l) refuses (gives (addressed g l)) h)
+
+pub none-some : {o : Option ℕ} {k : ℕ} {A : Type 0} → o ≡ some k → o ≡ none → A
+none-some e f = let w : _≡_ {A = ℕ} 0 1 = cc in absurd (omega arith)
+
+-- sizes of rounding
+pub round-small : (a n : ℕ) → a < 2 ^ 32 → 0 < n → n < 2 ^ 32 → (n - 1) / a + 1 < 2 ^ 32
+round-small a n p q r =
+    let h : (n - 1) / a ≤ n - 1 = div-le-self (n - 1) a in
+    omega arith
+
+pub round-fits : (a n : ℕ) → a < 2 ^ 32 → 0 < n → n < 2 ^ 32 → ((n - 1) / a + 1) * a < 2 ^ 64
+round-fits a n p q r =
+    let x : (n - 1) / a + 1 ≤ 4294967295 = omega (arith, round-small a n p q r) in
+    let y : a ≤ 4294967295 = omega arith in
+    lt-of-le-of-lt (mul-le-mul x y) (lit< tt)
+
+-- push on a table whose extended entry is e
+module _ (t : MBR) (sys start sectors : ℕ) (h : t .count ≤ 24) where
+  abbrev q : Request
+  q = requestOf t sys start sectors
+
+  pub push-eight : extendedIn t ≡ none → (pushSays t sys start sectors ≡ refuses 8) × (pushTable t sys start sectors ≡ t)
+  unfolding pushSays pushTable tableChecks pushChecks
+  push-eight x =
+      let c = le-leb _ _ h in
+      (rw (c, x), rw (c, x))
+
+  first-of : (e : MBRPartitionEntry) → extendedIn t ≡ some e → first-fail (tableChecks t q) ≡ first-fail (pushChecks q (some e) (t .count))
+  unfolding tableChecks
+  first-of e x = rw (le-leb _ _ h, x)
+
+  pub push-fails : (e : MBRPartitionEntry) (k : ℕ) → extendedIn t ≡ some e → first-fail (pushChecks q (some e) (t .count)) ≡ some k
+      → (pushSays t sys start sectors ≡ refuses k) × (pushTable t sys start sectors ≡ t)
+  unfolding pushSays pushTable
+  push-fails e k x f =
+      let g = first-of e x ∙ f in
+      (checked-some (tableChecks t q) refuses (gives (t .count + 5)) k g, checked-some (tableChecks t q) (λ _. t) (pushedTo t q) k g)
+
+  pub push-done : (e : MBRPartitionEntry) → extendedIn t ≡ some e → first-fail (pushChecks q (some e) (t .count)) ≡ none
+      → (pushSays t sys start sectors ≡ gives (t .count + 5))
+      × (pushTable t sys start sectors ≡ withLogicals t (set (t .«logical_partitions») (t .count) (newLogical (laterThan (t .count)) q)) (t .count + 1))
+  unfolding pushSays pushTable pushedTo
+  push-done e x f =
+      let g = first-of e x ∙ f in
+      (checked-none (tableChecks t q) refuses (gives (t .count + 5)) g, checked-none (tableChecks t q) (λ _. t) (pushedTo t q) g)

@@ -1,0 +1,110 @@
+use native.Mathlib.Omega.{arith}
+use Rattle.push.specs.Push.{roundChecks}
+use Rattle.base.proofs.Checks.{answer-refuses}
+use Rattle.base.specs.Said.{refusal}
+use Rattle.push.specs.Answers.{roundedSaid}
+use Rattle.push.proofs.Steps.{rounds, place-fits, fails-round, fails-place, fails-end, fails-rest, none-some}
+use mathlib.Core.Path.{_≡_, refl, sym, ap, _∙_}
+use borrow.Author.Needs.{needs}
+use Rattle.push.proofs.new_logical.Statement.{statement}
+use Rattle.push.proofs.new_logical.Tie as tie
+
+rounding-requires : tie.Need-rounding-requires
+rounding-requires c κs = search needs
+
+enum-known-k : tie.Need-enum-known-k
+enum-known-k c = search needs
+
+refused-requires : tie.Need-refused-requires
+refused-requires c κs = search needs
+
+enum-known-p : tie.Need-enum-known-p
+enum-known-p c = search needs
+
+place-rules-requires : tie.Need-place-rules-requires
+place-rules-requires c κs =
+    let a = c .before .before .before .before .args in
+    let r = rounds (a .q) _ (sym (c .before .before .before .rounding .ensures) ∙ ap roundedSaid (c .before .p .given .1)) in
+    (r .1, r .2)
+
+enum-known-k-2 : tie.Need-enum-known-k-2
+enum-known-k-2 c = search needs
+
+refused-requires-2 : tie.Need-refused-requires-2
+refused-requires-2 c κs = search needs
+
+enum-told : tie.Need-enum-told
+enum-told c = search needs
+
+end-rules-requires : tie.Need-end-rules-requires
+end-rules-requires c κs =
+    let a = c .before .before .before .before .before .before .before .args in
+    let r = rounds (a .q) _ (sym (c .before .before .before .before .before .before .rounding .ensures) ∙ ap roundedSaid (c .before .before .before .before .p .given .1)) in
+    (r .1, r .2)
+
+enum-known-k-3 : tie.Need-enum-known-k-3
+enum-known-k-3 c = search needs
+
+refused-requires-3 : tie.Need-refused-requires-3
+refused-requires-3 c κs = search needs
+
+enum-told-2 : tie.Need-enum-told-2
+enum-told-2 c = search needs
+
+placed-logical-requires : tie.Need-placed-logical-requires
+placed-logical-requires c κs =
+    let a = c .before .before .before .before .before .before .before .before .before .before .args in
+    let r = rounds (a .q) _ (sym (c .before .before .before .before .before .before .before .before .before .rounding .ensures) ∙ ap roundedSaid (c .before .before .before .before .before .before .before .p .given .1)) in
+    let f = place-fits (a .q) (a .e) (a .n) (sym (c .before .before .before .before .before .place-rules .ensures) ∙ ap refusal (c .before .before .before .enum-told .given .1)) in
+    (r .1, r .2, rw (r .1) (f .0), rw (r .2) (f .1))
+
+returns : tie.Need-returns
+returns c =
+    let a = c .before .before .before .before .before .args in
+    let f = answer-refuses (roundChecks (a .q)) _ _ (sym (c .before .before .before .before .rounding .ensures) ∙ ap roundedSaid (c .before .before .k .given .1)) in
+    (c .refused .ensures ∙ sym (fails-round (a .q) (a .e) (a .n) _ f), λ z. none-some (c .refused .ensures) z)
+
+returns-2 : tie.Need-returns-2
+returns-2 c =
+    let a = c .before .before .before .before .before .before .before .before .before .args in
+    let r = rounds (a .q) _ (sym (c .before .before .before .before .before .before .before .before .rounding .ensures) ∙ ap roundedSaid (c .before .before .before .before .before .before .p .given .1)) in
+    let f = sym (c .before .before .before .before .place-rules .ensures) ∙ ap refusal (c .before .before .k2 .given .1) in
+    (c .refused2 .ensures ∙ sym (fails-place (a .q) (a .e) (a .n) _ (r .0) f), λ z. none-some (c .refused2 .ensures) z)
+
+returns-3 : tie.Need-returns-3
+returns-3 c =
+    let a = c .before .before .before .before .before .before .before .before .before .before .before .before .args in
+    let r = rounds (a .q) _ (sym (c .before .before .before .before .before .before .before .before .before .before .before .rounding .ensures) ∙ ap roundedSaid (c .before .before .before .before .before .before .before .before .before .p .given .1)) in
+    let f = sym (c .before .before .before .before .before .before .before .place-rules .ensures) ∙ ap refusal (c .before .before .before .before .before .enum-told .given .1) in
+    let g = sym (c .before .before .before .before .end-rules .ensures) ∙ ap refusal (c .before .before .k3 .given .1) in
+    (c .refused3 .ensures ∙ sym (fails-end (a .q) (a .e) (a .n) _ (r .0) f g), λ z. none-some (c .refused3 .ensures) z)
+
+returns-4 : tie.Need-returns-4
+returns-4 c =
+    let a = c .before .before .before .before .before .before .before .before .before .before .before .args in
+    let r = rounds (a .q) _ (sym (c .before .before .before .before .before .before .before .before .before .before .rounding .ensures) ∙ ap roundedSaid (c .before .before .before .before .before .before .before .before .p .given .1)) in
+    let f = sym (c .before .before .before .before .before .before .place-rules .ensures) ∙ ap refusal (c .before .before .before .before .enum-told .given .1) in
+    let g = sym (c .before .before .before .end-rules .ensures) ∙ ap refusal (c .before .enum-told2 .given .1) in
+    (c .placed-logical .ensures .0 ∙ sym (fails-rest (a .q) (a .e) (a .n) (r .0) f g), c .placed-logical .ensures .1)
+
+pub new-logical-spec : {M : Type 1} → statement M
+new-logical-spec =
+    tie.close
+    (tie.spec
+    rounding-requires
+    enum-known-k
+    refused-requires
+    enum-known-p
+    place-rules-requires
+    enum-known-k-2
+    refused-requires-2
+    enum-told
+    end-rules-requires
+    enum-known-k-3
+    refused-requires-3
+    enum-told-2
+    placed-logical-requires
+    returns
+    returns-2
+    returns-3
+    returns-4)

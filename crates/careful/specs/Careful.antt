@@ -15,11 +15,11 @@ use Rattle.extract.specs.Answers.{checkSays}
 use Rattle.table.specs.declared.LogicalPartition.{LogicalPartition}
 use Rattle.table.specs.declared.MBR.{MBR}
 use Rattle.read.specs.Read.{Table, read, tableOf}
+use Rattle.lookup.specs.Remove.{removedTable}
 use Rattle.push.specs.declared.Geometry.{Geometry}
 use Rattle.push.specs.Push.{Request, placeOf, sizeOf, laterThan, newLogical, pushChecks, pushed, pushTable}
-use Rattle.push.specs.Remove.{removeChecks, without, removeTable}
 use Rattle.sound.specs.Sound.{Contents, contentsOf, extendedIn, areaEnd, end, soundb}
-use Rattle.careful.specs.Stores.{firstPlace, lastOf, pushStores, removeStore}
+use Rattle.careful.specs.Stores.{firstPlace, leftOut, lastOf, pushStores, removeStore}
 
 -- what is read, but for the alignment, which no disk holds
 abbrev pub contents : Table → Contents
@@ -79,14 +79,15 @@ pushChange q t =
 
 -- those of a careful removal, after reading's: 20, 17, 19
 unfoldable pub removeRefusals : ℕ → ℕ → Contents → List Check
-removeRefusals room n t = (20 ! soundb t) ∷ removeChecks n (length (t .logicals)) ++ (19 ! leb roomNeeded room) ∷ []
+removeRefusals room n t =
+    (20 ! soundb t) ∷ (17 ! leb 5 n) ∷ (17 ! ltb (n - 5) (length (t .logicals))) ∷ (19 ! leb roomNeeded room) ∷ []
 
 -- its store; the list without that one, and the first-place rule holds
 unfoldable pub removeChange : ℕ → Contents → Change
 removeChange n t =
     record {
       stores = removeStore (areaOf t) (t .logicals) (n - 5) ∷ [];
-      result = relist t (firstPlace (areaOf t) (without (t .logicals) (n - 5)));
+      result = relist t (firstPlace (areaOf t) (leftOut (t .logicals) (n - 5)));
     }
 
 -- a table by value with the request's alignment and geometry, as the crate's push takes it
@@ -109,7 +110,7 @@ unfoldable pub cratePush : Request → Table → Contents
 cratePush q t = contentsOf (pushTable (asAsked (tableOf t) q) (q .sys) (q .start) (q .sectors))
 
 unfoldable pub crateRemove : ℕ → Table → Contents
-crateRemove n t = contentsOf (removeTable (tableOf t) n)
+crateRemove n t = contentsOf (removedTable (tableOf t) n)
 
 -- a table under the first-place rule
 unfoldable pub inFirstPlace : Contents → Contents

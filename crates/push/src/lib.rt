@@ -1,4 +1,4 @@
-// One more logical partition, one less, and the addresses of one.
+// One more logical partition, and the addresses of one.
 
 // A disk's cylinders, heads and sectors in a track.
 pub struct Geometry {

@@ -1,34 +1,32 @@
 -- An accepted careful push, and an accepted careful removal, is safe at every stop. Assumes nothing.
 use mathlib.Core.Path.{_≡_, refl, ap, sym, subst, _∙_}
-use mathlib.Core.Logic.{_⊎_, inl, inr}
 use mathlib.Core.Option.{Option, none, some, Option·getD}
-use mathlib.Core.Bool.{Bool, true, false, not, _&&_}
+use mathlib.Core.Bool.{true, false}
 use mathlib.Core.List.{List, [], _∷_, _++_, append-assoc}
 use Prim.Native.Nat.{ℕ, zero, suc, _+_, _-_, _*_, _^_, _≤_, _<_}
 use native.Mathlib.Nat.{suc-add}
 use native.Mathlib.Omega.{arith}
 use lib.Dec.{ltb, leb}
-use lib.ListN.{length, take, drop, length-append}
+use lib.ListN.{length, length-append}
 use borrow.Author.Tests.{ltb-true, leb-true, lt-ltb, not-true}
 use Rattle.base.specs.Checks.{Check, _!_, AllHold}
-use Rattle.base.specs.Said.{Said, gives}
-use Rattle.base.specs.Row.{next}
+use Rattle.base.specs.Said.{gives}
 use Rattle.base.proofs.Checks.{hold-left, hold-right}
 use Rattle.entry.specs.declared.MBRPartitionEntry.{MBRPartitionEntry}
 use Rattle.entry.specs.Entry.{noEntry, used, extended, endOf}
 use Rattle.extract.specs.Disk.{Disk, Store}
 use Rattle.table.specs.declared.LogicalPartition.{LogicalPartition}
 use Rattle.table.specs.Table.{most}
-use Rattle.chain.specs.Chain.{Link, firstLink}
+use Rattle.chain.specs.Chain.{firstLink}
 use Rattle.chain.specs.Facts.{seen, at, linkIn, Holds}
-use Rattle.push.specs.Push.{Request, placeOf, sizeOf, laterThan, newLogical, roundChecks, placeChecks, endChecks, geometryChecks, isSome, orNone, pushChecks, pushed}
+use Rattle.push.specs.Push.{Request, placeOf, sizeOf, laterThan, newLogical, roundChecks, placeChecks, endChecks, geometryChecks, pushChecks, pushed}
 use Rattle.sound.specs.Sound.{Contents, extendedIn, areaEnd, end, Sound, soundb}
 use Rattle.sound.proofs.Test.{is-sound}
-use Rattle.careful.specs.Stores.{write, wipe, moved, firstPlace, leftOut, lastOf, pushStores, skipStore, removeStore}
-use Rattle.careful.specs.Careful.{relist, areaOf, Change, roomNeeded, askChecks, tooWide, lastEnd, spaceChecks, pushRefusals, pushChange, removeRefusals, removeChange}
+use Rattle.careful.specs.Stores.{write, moved, firstPlace, leftOut, lastOf, pushStores, skipStore, removeStore}
+use Rattle.careful.specs.Careful.{relist, roomNeeded, askChecks, lastEnd, spaceChecks, pushRefusals, pushChange, removeRefusals, removeChange}
 use Rattle.careful.specs.Demand3.{contentsOn, Safe, Whole, Asked}
 use Rattle.careful.proofs.Shown.{Shows, Heads, holds-heads}
-use Rattle.careful.proofs.Split.{Split, split}
+use Rattle.careful.proofs.Split.{split}
 use Rattle.careful.proofs.Push.{Room, push-safe}
 use Rattle.careful.proofs.Remove.{remove-safe, remove-first-safe, remove-only-safe, push-first-safe}
 use Rattle.careful.proofs.New.{NewOk, Fits, new-ok, new-good, new-writable, new-span, new-linkable}

@@ -1,15 +1,15 @@
 -- The table after a careful change is that of the crate's own push or removal, under the first-place rule. Assumes nothing.
-use mathlib.Core.Path.{_≡_, refl, ap, sym, subst, _∙_}
+use mathlib.Core.Path.{_≡_, refl, ap, sym, _∙_}
 use mathlib.Core.Option.{Option, none, some}
 use mathlib.Core.Bool.{true}
 use mathlib.Core.List.{List, [], _∷_, _++_}
-use Prim.Native.Nat.{ℕ, _+_, _-_, _≤_, _<_}
+use Prim.Native.Nat.{ℕ, _-_, _≤_, _<_}
 use native.Mathlib.Omega.{arith}
 use lib.Dec.{ltb, leb}
 use lib.ListN.{length, take, replicate, length-append, length-replicate}
 use lib.Seq.{take-append-seam}
 use borrow.Author.Tests.{ltb-true, le-leb}
-use Rattle.base.specs.Checks.{Check, _!_, checked, AllHold}
+use Rattle.base.specs.Checks.{Check, _!_, AllHold}
 use Rattle.base.proofs.Checks.{hold-left, hold-right, all-hold, checked-none}
 use Rattle.entry.specs.declared.MBRPartitionEntry.{MBRPartitionEntry}
 use Rattle.extract.specs.Disk.{Disk}
@@ -19,7 +19,7 @@ use Rattle.table.specs.Table.{most, logicals, emptySlot}
 use Rattle.chain.specs.Facts.{View, Holds, seen}
 use Rattle.read.specs.Read.{Table, slots, tableOf}
 use Rattle.push.specs.Push.{Request, isSome, orNone, laterThan, roundChecks, placeChecks, endChecks, geometryChecks, pushChecks, pushed, tableChecks, pushedTo, pushTable}
-use Rattle.lookup.specs.Remove.{without, removeChecks, removedTable}
+use Rattle.lookup.specs.Remove.{without, removedTable}
 use Rattle.lookup.proofs.Laws.{without-logicals}
 use Rattle.push.proofs.Laws.{logicals-pushed}
 use Rattle.sound.specs.Sound.{Contents, contentsOf, extendedIn, soundb}

@@ -1,23 +1,20 @@
 -- Demand 3 holds of every whole disk. Assumes nothing.
-use mathlib.Core.Path.{_≡_, refl, ap, sym, subst, _∙_}
-use mathlib.Core.Option.{Option, none, some}
-use mathlib.Core.Bool.{Bool, true, false}
+use mathlib.Core.Path.{_≡_, ap, _∙_}
+use mathlib.Core.Option.{some}
+use mathlib.Core.Bool.{false}
 use mathlib.Core.List.{List, [], _∷_, _++_}
-use Prim.Native.Nat.{ℕ, _^_, _<_}
-use native.Mathlib.Omega.{arith}
+use Prim.Native.Nat.{ℕ}
 use Rattle.base.specs.Bytes.{Bytes}
 use Rattle.base.specs.Said.{Said, gives, refuses}
-use Rattle.base.specs.Checks.{Check, answer, checked, first-fail, AllHold, FirstFail}
+use Rattle.base.specs.Checks.{Check, answer, first-fail, AllHold, FirstFail}
 use Rattle.base.proofs.Checks.{all-hold, checked-some, checked-none}
 use Rattle.extract.specs.Disk.{Disk}
 use Rattle.extract.specs.Extract.{Good, extractChecks, diskOf}
 use Rattle.extract.specs.Answers.{headerOf, checkSays}
 use Rattle.extract.proofs.Disk.{size-below, sector-record}
-use Rattle.read.specs.Read.{Table, read}
-use Rattle.push.specs.Push.{Request}
 use Rattle.sound.specs.Sound.{Contents}
 use Rattle.careful.specs.Careful.{contents, Change, pushRefusals, pushChange, removeRefusals, removeChange, cratePush, crateRemove, inFirstPlace, carefulPush, carefulRemove, carefulPushSays, carefulRemoveSays}
-use Rattle.careful.specs.Demand3.{Safe, Careful, Whole, Asked, Demand3, OfExtract}
+use Rattle.careful.specs.Demand3.{Safe, Careful, Whole, Demand3, OfExtract}
 use Rattle.careful.proofs.Shown.{read→shows, read→contents}
 use Rattle.careful.proofs.Crate.{push-same, remove-same}
 use Rattle.careful.proofs.Accepted.{push-accepted, remove-accepted}

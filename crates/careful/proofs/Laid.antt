@@ -2,15 +2,14 @@
 use mathlib.Core.Path.{_≡_, refl, ap, sym, subst, _∙_}
 use mathlib.Core.Logic.{_⊎_}
 use mathlib.Core.List.{List, [], _∷_}
-use Prim.Native.Nat.{ℕ, zero, suc, _≤_, _<_}
-use native.Mathlib.Omega.{arith}
-use lib.ListN.{length, take}
+use Prim.Native.Nat.{ℕ, zero, suc, _<_}
+use lib.ListN.{take}
 use Rattle.base.specs.Bytes.{Record}
-use Rattle.base.specs.Said.{Said, gives}
+use Rattle.base.specs.Said.{gives}
 use Rattle.extract.specs.Disk.{Disk, Store, stored, after}
 use Rattle.extract.specs.Extract.{diskSectors, Good, diskOf}
 use Rattle.extract.proofs.Disk.{size-of, size-stored}
-use Rattle.layover.specs.Layover.{newRecords, newExtract}
+use Rattle.layover.specs.Layover.{newExtract}
 use Rattle.layover.proofs.Laws.{new-good, new-stored}
 use Rattle.sound.specs.Is.{All}
 use Rattle.sound.specs.Sound.{Contents}

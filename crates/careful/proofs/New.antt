@@ -1,17 +1,15 @@
 -- What is known of a pushed partition once no refusal applies. Assumes nothing.
 use mathlib.Core.Path.{_≡_, refl, ap, sym, subst, _∙_}
-use mathlib.Core.Logic.{_⊎_, inl, inr}
-use mathlib.Core.Option.{Option, none, some}
-use mathlib.Core.Bool.{Bool, true, false, not, _&&_}
-use mathlib.Core.List.{List, [], _∷_, _++_}
-use Prim.Native.Nat.{ℕ, zero, suc, _+_, _-_, _*_, _/_, _^_, _≤_, _<_}
+use mathlib.Core.Logic.{inl}
+use mathlib.Core.Option.{none}
+use mathlib.Core.Bool.{Bool, true, false, _&&_}
+use mathlib.Core.List.{[]}
+use Prim.Native.Nat.{ℕ, _+_, _-_, _*_, _/_, _≤_, _<_}
 use native.Mathlib.Omega.{arith}
 use lib.Dec.{ltb, leb, eqb}
-use lib.ListN.{length}
-use borrow.Author.Tests.{ltb-true, leb-true, eqb-false, not-true}
+use borrow.Author.Tests.{leb-true, eqb-false, not-true}
 use Rattle.base.specs.Pick.{pick}
-use Rattle.base.specs.Checks.{Check, AllHold}
-use Rattle.base.proofs.Checks.{hold-left, hold-right}
+use Rattle.base.specs.Checks.{AllHold}
 use Rattle.chs.specs.declared.CHS.{CHS}
 use Rattle.chs.specs.Chs.{ChsOk}
 use Rattle.chs.proofs.Small.{head-fits, sector-fits}
@@ -25,9 +23,9 @@ use Rattle.table.specs.declared.MaybeChs.the-variants.{Absent as NoChs, Present
 use Rattle.table.specs.declared.LogicalPartition.{LogicalPartition}
 use Rattle.chain.specs.Facts.{at, start}
 use Rattle.push.specs.declared.Geometry.{Geometry}
-use Rattle.push.specs.Address.{complete, addressIn, addressChecks, lastChecks, linkChecks, updateChecks, addressed}
+use Rattle.push.specs.Address.{complete, addressIn, addressChecks, updateChecks, addressed}
 use Rattle.push.specs.Push.{Request, placeOf, sizeOf, fresh, newLogical, geometryChecks}
-use Rattle.sound.specs.Sound.{end, Within, IfThere, Used, Extended}
+use Rattle.sound.specs.Sound.{end, Within, IfThere}
 use Rattle.sound.proofs.Good.{Good, Span}
 use Rattle.careful.specs.Demand3.{Asked}
 use Rattle.careful.proofs.Push.{Writable, Linkable}

@@ -1,11 +1,9 @@
 -- Document 01's numbers of careful changes on disk K, computed. Assumes nothing.
 use mathlib.Core.Path.{_≡_, refl}
-use mathlib.Core.Option.{Option, none, some}
-use mathlib.Core.Bool.{Bool, true, false}
 use mathlib.Core.List.{List, [], _∷_, _++_, map}
 use Prim.Native.Nat.{ℕ}
 use lib.Dec.{eqb}
-use lib.ListN.{replicate, length}
+use lib.ListN.{replicate}
 use Rattle.base.specs.Pick.{pick}
 use Rattle.base.specs.Said.{Said, gives, refuses}
 use Rattle.chs.specs.Chs.{noChs}
@@ -13,12 +11,11 @@ use Rattle.entry.specs.declared.MBRPartitionEntry.{MBRPartitionEntry}
 use Rattle.entry.specs.Entry.{entryBytes, noEntry}
 use Rattle.ebr.specs.Ebr.{keptOf, noKept, ebrBytes}
 use Rattle.mbr.specs.Mbr.{codeOf, extendedOf}
-use Rattle.extract.specs.Disk.{Disk, Store, stored, after}
+use Rattle.extract.specs.Disk.{Disk, stored, after}
 use Rattle.chain.specs.Chain.{view, placed, follow, chain, logicalsOf}
 use Rattle.chain.specs.Facts.{nextOf, linkIn, bodyOf}
 use Rattle.align.specs.Align.{usedStarts, dividesAll, largest, divisorTo, alignment}
-use Rattle.read.specs.Read.{Table, headerOn, withChain, read}
-use Rattle.push.specs.declared.Geometry.{Geometry}
+use Rattle.read.specs.Read.{headerOn, withChain, read}
 use Rattle.push.specs.Address.{complete, updateChecks, addressed}
 use Rattle.push.specs.Push.{Request, rounded, fresh, newLogical, roundChecks, placeChecks, endChecks, geometryChecks, pushChecks, pushed}
 use Rattle.sound.specs.Is.{allb, pairsb, rowb}

@@ -1,12 +1,12 @@
 -- Careful push and careful removal on a disk: refusals in their order, else the stores and the table after. Assumes nothing.
 use Prim.Native.Nat.{ℕ, _+_, _-_}
-use mathlib.Core.Bool.{Bool, true, false, not, _&&_}
-use mathlib.Core.Option.{Option, none, some, Option·getD}
+use mathlib.Core.Bool.{Bool, not, _&&_}
+use mathlib.Core.Option.{Option·getD}
 use mathlib.Core.List.{List, [], _∷_, _++_}
 use lib.Dec.{ltb, leb}
 use lib.ListN.{length}
-use Rattle.base.specs.Said.{Said, gives, refuses, andThen}
-use Rattle.base.specs.Checks.{Check, _!_, checked, answer}
+use Rattle.base.specs.Said.{Said, andThen}
+use Rattle.base.specs.Checks.{Check, _!_, answer}
 use Rattle.entry.specs.declared.MBRPartitionEntry.{MBRPartitionEntry}
 use Rattle.entry.specs.Entry.{noEntry, used, extended}
 use Rattle.extract.specs.Disk.{Disk, Store}

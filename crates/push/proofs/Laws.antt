@@ -1,13 +1,12 @@
 -- Laws of push and update_chs: the table's list after a push; the addresses one by one. Assumes nothing.
 use mathlib.Core.Path.{_≡_, refl}
-use mathlib.Core.List.{List}
-use Prim.Native.Nat.{ℕ, _+_, _≤_, _<_}
+use Prim.Native.Nat.{_<_}
 use native.Mathlib.Numerals.{add-one}
 use native.Mathlib.Omega.{arith}
-use lib.ListN.{length, set}
+use lib.ListN.{length}
 use lib.Seq.{take-suc-set, length-take-le}
-use Rattle.base.specs.Said.{Said, gives, refuses}
-use Rattle.base.specs.Checks.{Check, checked, answer}
+use Rattle.base.specs.Said.{refuses}
+use Rattle.base.specs.Checks.{checked, answer}
 use Rattle.table.specs.declared.LogicalPartition.{LogicalPartition}
 use Rattle.table.specs.declared.MBR.{MBR}
 use Rattle.table.specs.Table.{logicals}

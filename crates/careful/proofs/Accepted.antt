@@ -1,35 +1,32 @@
 -- An accepted careful push, and an accepted careful removal, is safe at every stop. Assumes nothing.
 use mathlib.Core.Path.{_≡_, refl, ap, sym, subst, _∙_}
-use mathlib.Core.Logic.{_⊎_, inl, inr}
 use mathlib.Core.Option.{Option, none, some, Option·getD}
-use mathlib.Core.Bool.{Bool, true, false, not, _&&_}
+use mathlib.Core.Bool.{true, false}
 use mathlib.Core.List.{List, [], _∷_, _++_, append-assoc}
 use Prim.Native.Nat.{ℕ, zero, suc, _+_, _-_, _*_, _^_, _≤_, _<_}
 use native.Mathlib.Nat.{suc-add}
 use native.Mathlib.Omega.{arith}
 use lib.Dec.{ltb, leb}
-use lib.ListN.{length, take, drop, length-append}
+use lib.ListN.{length, length-append}
 use borrow.Author.Tests.{ltb-true, leb-true, lt-ltb, not-true}
 use Rattle.base.specs.Checks.{Check, _!_, AllHold}
-use Rattle.base.specs.Said.{Said, gives}
-use Rattle.base.specs.Row.{next}
+use Rattle.base.specs.Said.{gives}
 use Rattle.base.proofs.Checks.{hold-left, hold-right}
 use Rattle.entry.specs.declared.MBRPartitionEntry.{MBRPartitionEntry}
 use Rattle.entry.specs.Entry.{noEntry, used, extended, endOf}
 use Rattle.extract.specs.Disk.{Disk, Store}
 use Rattle.table.specs.declared.LogicalPartition.{LogicalPartition}
 use Rattle.table.specs.Table.{most}
-use Rattle.chain.specs.Chain.{Link, firstLink}
+use Rattle.chain.specs.Chain.{firstLink}
 use Rattle.chain.specs.Facts.{seen, at, linkIn, Holds}
-use Rattle.push.specs.Push.{Request, placeOf, sizeOf, laterThan, newLogical, roundChecks, placeChecks, endChecks, geometryChecks, isSome, orNone, pushChecks, pushed}
-use Rattle.push.specs.Remove.{without}
+use Rattle.push.specs.Push.{Request, placeOf, sizeOf, laterThan, newLogical, roundChecks, placeChecks, endChecks, geometryChecks, pushChecks, pushed}
 use Rattle.sound.specs.Sound.{Contents, extendedIn, areaEnd, end, Sound, soundb}
 use Rattle.sound.proofs.Test.{is-sound}
-use Rattle.careful.specs.Stores.{write, wipe, moved, firstPlace, lastOf, pushStores, skipStore, removeStore}
-use Rattle.careful.specs.Careful.{relist, areaOf, Change, roomNeeded, askChecks, tooWide, lastEnd, spaceChecks, pushRefusals, pushChange, removeRefusals, removeChange}
+use Rattle.careful.specs.Stores.{write, moved, firstPlace, leftOut, lastOf, pushStores, skipStore, removeStore}
+use Rattle.careful.specs.Careful.{relist, roomNeeded, askChecks, lastEnd, spaceChecks, pushRefusals, pushChange, removeRefusals, removeChange}
 use Rattle.careful.specs.Demand3.{contentsOn, Safe, Whole, Asked}
 use Rattle.careful.proofs.Shown.{Shows, Heads, holds-heads}
-use Rattle.careful.proofs.Split.{Split, split}
+use Rattle.careful.proofs.Split.{split}
 use Rattle.careful.proofs.Push.{Room, push-safe}
 use Rattle.careful.proofs.Remove.{remove-safe, remove-first-safe, remove-only-safe, push-first-safe}
 use Rattle.careful.proofs.New.{NewOk, Fits, new-ok, new-good, new-writable, new-span, new-linkable}
@@ -172,38 +169,38 @@ module _ (d : Disk) (t : Contents) (whole : Whole d) (small : t .size < 2 ^ 32) 
   Removed : MBRPartitionEntry → List LogicalPartition → Store → List LogicalPartition → Type 0
   Removed e ls one left = Safe d t (record { stores = one ∷ []; result = relist t (ls ++ left) })
 
-  without-suc : (y : LogicalPartition) (ms : List LogicalPartition) (i : ℕ) → without (y ∷ ms) (suc i) ≡ y ∷ without ms i
-  unfolding without
-  without-suc y ms i = rw (suc-add i 1)
+  left-suc : (y : LogicalPartition) (ms : List LogicalPartition) (i : ℕ) → leftOut (y ∷ ms) (suc i) ≡ y ∷ leftOut ms i
+  unfolding leftOut
+  left-suc y ms i = rw (suc-add i 1)
 
   skip-safe : (e : MBRPartitionEntry) → extendedIn t ≡ some e → (ls : List LogicalPartition) (l : LogicalPartition) (rest : List LogicalPartition) (i : ℕ) → i < length rest
-      → t .logicals ≡ ls ++ l ∷ rest → Removed e ls (skipStore e l rest i) (l ∷ without rest i)
-  unfolding Removed skipStore without
+      → t .logicals ≡ ls ++ l ∷ rest → Removed e ls (skipStore e l rest i) (l ∷ leftOut rest i)
+  unfolding Removed skipStore leftOut
   skip-safe e x ls l [] i h q = absurd (omega arith)
   skip-safe e x ls l (y ∷ ms) zero h q =
       let p : t .logicals ≡ (ls ++ l ∷ []) ++ y ∷ ms = q ∙ sym (append-assoc ls (l ∷ []) (y ∷ ms)) in
       remove-safe d t e ls l y ms small now r s x (split d t e ls l (y ∷ ms) whole r s x q) (split d t e (ls ++ l ∷ []) y ms whole r s x p) q
   skip-safe e x ls l (y ∷ ms) (suc i) h q =
       let p : t .logicals ≡ (ls ++ l ∷ []) ++ y ∷ ms = q ∙ sym (append-assoc ls (l ∷ []) (y ∷ ms)) in
-      let k : Removed e (ls ++ l ∷ []) (skipStore e y ms i) (y ∷ without ms i) = skip-safe e x (ls ++ l ∷ []) y ms i (omega arith) p in
-      let same : (ls ++ l ∷ []) ++ y ∷ without ms i ≡ ls ++ l ∷ without (y ∷ ms) (suc i) =
-      append-assoc ls (l ∷ []) (y ∷ without ms i) ∙ ap (λ (z : List LogicalPartition). ls ++ l ∷ z) (sym (without-suc y ms i)) in
+      let k : Removed e (ls ++ l ∷ []) (skipStore e y ms i) (y ∷ leftOut ms i) = skip-safe e x (ls ++ l ∷ []) y ms i (omega arith) p in
+      let same : (ls ++ l ∷ []) ++ y ∷ leftOut ms i ≡ ls ++ l ∷ leftOut (y ∷ ms) (suc i) =
+      append-assoc ls (l ∷ []) (y ∷ leftOut ms i) ∙ ap (λ (z : List LogicalPartition). ls ++ l ∷ z) (sym (left-suc y ms i)) in
       subst (λ (z : List LogicalPartition). Safe d t (record { stores = skipStore e y ms i ∷ []; result = relist t z })) same k
 
   drop-safe : (e : MBRPartitionEntry) → extendedIn t ≡ some e → (ls : List LogicalPartition) (i : ℕ) → i < length ls → t .logicals ≡ ls
-      → Safe d t (record { stores = removeStore e ls i ∷ []; result = relist t (firstPlace e (without ls i)) })
-  unfolding removeStore without firstPlace Removed
+      → Safe d t (record { stores = removeStore e ls i ∷ []; result = relist t (firstPlace e (leftOut ls i)) })
+  unfolding removeStore leftOut firstPlace Removed
   drop-safe e x [] i h q = absurd (omega arith)
   drop-safe e x (y ∷ []) zero h q = remove-only-safe d t e y small now r s x q (split d t e [] y [] whole r s x q)
   drop-safe e x (y ∷ m ∷ ms) zero h q =
       remove-first-safe d t e y m ms small now r s x q (split d t e [] y (m ∷ ms) whole r s x q) (split d t e (y ∷ []) m ms whole r s x q)
   drop-safe e x (l ∷ ls) (suc i) h q =
-      let same : l ∷ without ls i ≡ firstPlace e (without (l ∷ ls) (suc i)) =
-      sym (first-same e l ls (heads-of d t e l ls r x q) (without ls i)) ∙ ap (firstPlace e) (sym (without-suc l ls i)) in
+      let same : l ∷ leftOut ls i ≡ firstPlace e (leftOut (l ∷ ls) (suc i)) =
+      sym (first-same e l ls (heads-of d t e l ls r x q) (leftOut ls i)) ∙ ap (firstPlace e) (sym (left-suc l ls i)) in
       subst (λ (z : List LogicalPartition). Safe d t (record { stores = skipStore e l ls i ∷ []; result = relist t z })) same (skip-safe e x [] l ls i (omega arith) q)
 
   out-of : (o : Option MBRPartitionEntry) → extendedIn t ≡ o → (ls : List LogicalPartition) → t .logicals ≡ ls → (i : ℕ) → i < length ls
-      → Safe d t (record { stores = removeStore (Option·getD o noEntry) ls i ∷ []; result = relist t (firstPlace (Option·getD o noEntry) (without ls i)) })
+      → Safe d t (record { stores = removeStore (Option·getD o noEntry) ls i ∷ []; result = relist t (firstPlace (Option·getD o noEntry) (leftOut ls i)) })
   out-of none x [] z i h = absurd (omega arith)
   out-of none x (l ∷ ls) z i h = absurd (rw z at (rw x at (r .holds)))
   out-of (some e) x ls z i h = drop-safe e x ls i h z

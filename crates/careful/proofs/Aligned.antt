@@ -1,20 +1,19 @@
 -- Where an extended entry starts above 0, reading finds an alignment. Assumes nothing.
-use mathlib.Core.Path.{_≡_, refl, ap, sym, subst, _∙_}
-use mathlib.Core.Option.{Option, none, some}
-use mathlib.Core.Bool.{Bool, true, false, _&&_}
+use mathlib.Core.Path.{_≡_, refl, ap}
+use mathlib.Core.Option.{Option, some}
+use mathlib.Core.Bool.{Bool, true, false}
 use mathlib.Core.List.{List, [], _∷_, _++_}
-use Prim.Native.Nat.{ℕ, zero, suc, _+_, _%_, _≤_, _<_, min, max}
+use Prim.Native.Nat.{ℕ, zero, suc, _%_, _≤_, min, max}
 use native.Mathlib.Omega.{arith}
-use lib.Dec.{eqb}
 use borrow.Author.Tests.{eq-eqb}
 use Rattle.base.specs.Pick.{pick}
-use Rattle.base.specs.Said.{Said, gives, refuses}
+use Rattle.base.specs.Said.{gives}
 use Rattle.entry.specs.declared.MBRPartitionEntry.{MBRPartitionEntry}
 use Rattle.entry.specs.Entry.{used, extended}
 use Rattle.mbr.specs.Mbr.{extendedOf}
 use Rattle.table.specs.Table.{greatestAlign}
 use Rattle.align.specs.Align.{usedStarts, dividesAll, largest, divisorTo, orSeven, alignment}
-use Rattle.sound.proofs.Good.{extended-used, ext-go}
+use Rattle.sound.proofs.Good.{extended-used}
 
 -- an alignment is found
 pub record Aligned (ss : List ℕ) : Type 0 where

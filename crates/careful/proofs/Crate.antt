@@ -1,28 +1,29 @@
 -- The table after a careful change is that of the crate's own push or removal, under the first-place rule. Assumes nothing.
-use mathlib.Core.Path.{_≡_, refl, ap, sym, subst, _∙_}
+use mathlib.Core.Path.{_≡_, refl, ap, sym, _∙_}
 use mathlib.Core.Option.{Option, none, some}
 use mathlib.Core.Bool.{true}
 use mathlib.Core.List.{List, [], _∷_, _++_}
-use Prim.Native.Nat.{ℕ, _+_, _-_, _≤_, _<_}
+use Prim.Native.Nat.{ℕ, _-_, _≤_, _<_}
 use native.Mathlib.Omega.{arith}
 use lib.Dec.{ltb, leb}
 use lib.ListN.{length, take, replicate, length-append, length-replicate}
 use lib.Seq.{take-append-seam}
 use borrow.Author.Tests.{ltb-true, le-leb}
-use Rattle.base.specs.Checks.{Check, _!_, checked, AllHold}
+use Rattle.base.specs.Checks.{Check, _!_, AllHold}
 use Rattle.base.proofs.Checks.{hold-left, hold-right, all-hold, checked-none}
 use Rattle.entry.specs.declared.MBRPartitionEntry.{MBRPartitionEntry}
 use Rattle.extract.specs.Disk.{Disk}
 use Rattle.table.specs.declared.LogicalPartition.{LogicalPartition}
 use Rattle.table.specs.declared.MBR.{MBR}
-use Rattle.table.specs.Table.{most, logicals}
+use Rattle.table.specs.Table.{most, logicals, emptySlot}
 use Rattle.chain.specs.Facts.{View, Holds, seen}
-use Rattle.read.specs.Read.{Table, emptySlot, slots, tableOf}
+use Rattle.read.specs.Read.{Table, slots, tableOf}
 use Rattle.push.specs.Push.{Request, isSome, orNone, laterThan, roundChecks, placeChecks, endChecks, geometryChecks, pushChecks, pushed, tableChecks, pushedTo, pushTable}
-use Rattle.push.specs.Remove.{removeChecks, without, removedFrom, removeTable}
-use Rattle.push.proofs.Laws.{logicals-pushed, logicals-removed}
+use Rattle.lookup.specs.Remove.{without, removedTable}
+use Rattle.lookup.proofs.Laws.{without-logicals}
+use Rattle.push.proofs.Laws.{logicals-pushed}
 use Rattle.sound.specs.Sound.{Contents, contentsOf, extendedIn, soundb}
-use Rattle.careful.specs.Stores.{firstPlace}
+use Rattle.careful.specs.Stores.{firstPlace, leftOut}
 use Rattle.careful.specs.Careful.{contents, relist, areaOf, roomNeeded, askChecks, spaceChecks, pushRefusals, pushChange, removeRefusals, removeChange, asAsked, cratePush, crateRemove, inFirstPlace}
 use Rattle.careful.proofs.Shown.{Shows, holds-few}
 
@@ -86,20 +87,20 @@ module _ (d : Disk) (t : Table) (r : Shows d (contents t)) where
       sym (ap inFirstPlace (ap contentsOf (push-accepts q k n) ∙ push-contents q k n) ∙ placed-list (contents t) (pushed q ls))
 
   module _ (n : ℕ) (five : leb 5 n ≡ true) (there : ltb (n - 5) (length ls) ≡ true) where
-    remove-accepts : removeTable (tableOf t) n ≡ removedFrom (tableOf t) (n - 5)
-    unfolding removeTable tableOf
+    remove-accepts : removedTable (tableOf t) n ≡ without (tableOf t) (n - 5)
+    unfolding tableOf
     remove-accepts =
-        let cs : List Check = (6 ! leb (length ls) most) ∷ removeChecks n (length ls) in
-        checked-none cs (λ k. tableOf t) (removedFrom (tableOf t) (n - 5)) (all-hold cs (le-leb (length ls) most few, (five, (there, tt))))
+        let cs : List Check = (6 ! leb (length ls) most) ∷ (17 ! leb 5 n) ∷ (17 ! ltb (n - 5) (length ls)) ∷ [] in
+        checked-none cs (λ k. tableOf t) (without (tableOf t) (n - 5)) (all-hold cs (le-leb (length ls) most few, (five, (there, tt))))
 
-    remove-contents : contentsOf (removedFrom (tableOf t) (n - 5)) ≡ relist (contents t) (without ls (n - 5))
-    unfolding tableOf relist removedFrom
+    remove-contents : contentsOf (without (tableOf t) (n - 5)) ≡ relist (contents t) (leftOut ls (n - 5))
+    unfolding tableOf relist leftOut
     remove-contents =
-        let e : logicals (removedFrom (tableOf t) (n - 5)) ≡ without ls (n - 5) =
-        logicals-removed (tableOf t) (n - 5) (ltb-true (n - 5) (length ls) there) (omega (arith, slots-length ls few, few)) ∙ ap (λ (z : List LogicalPartition). without z (n - 5)) (slots-front ls) in
+        let e : logicals (without (tableOf t) (n - 5)) ≡ leftOut ls (n - 5) =
+        without-logicals (tableOf t) (n - 5) (ltb-true (n - 5) (length ls) there) (omega (arith, slots-length ls few, few)) ∙ ap (λ (z : List LogicalPartition). leftOut z (n - 5)) (slots-front ls) in
         λ i. record { width = t .width; size = t .size; header = t .header; logicals = e i }
 
   pub remove-same : (room n : ℕ) → AllHold (removeRefusals room n (contents t)) → removeChange n (contents t) .result ≡ inFirstPlace (crateRemove n t)
   unfolding removeRefusals removeChange crateRemove
   remove-same room n h =
-      sym (ap inFirstPlace (ap contentsOf (remove-accepts n (h .1 .0) (h .1 .1 .0)) ∙ remove-contents n (h .1 .0) (h .1 .1 .0)) ∙ placed-list (contents t) (without ls (n - 5)))
+      sym (ap inFirstPlace (ap contentsOf (remove-accepts n (h .1 .0) (h .1 .1 .0)) ∙ remove-contents n (h .1 .0) (h .1 .1 .0)) ∙ placed-list (contents t) (leftOut ls (n - 5)))

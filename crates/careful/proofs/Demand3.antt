@@ -1,22 +1,20 @@
 -- Demand 3 holds of every whole disk. Assumes nothing.
-use mathlib.Core.Path.{_≡_, refl, ap, sym, subst, _∙_}
-use mathlib.Core.Option.{Option, none, some}
-use mathlib.Core.Bool.{Bool, true, false}
+use mathlib.Core.Path.{_≡_, ap, _∙_}
+use mathlib.Core.Option.{some}
+use mathlib.Core.Bool.{false}
 use mathlib.Core.List.{List, [], _∷_, _++_}
-use Prim.Native.Nat.{ℕ, _^_, _<_}
-use native.Mathlib.Omega.{arith}
-use Rattle.base.specs.Pick.{pick}
+use Prim.Native.Nat.{ℕ}
+use Rattle.base.specs.Bytes.{Bytes}
 use Rattle.base.specs.Said.{Said, gives, refuses}
-use Rattle.base.specs.Checks.{Check, answer, checked, first-fail, AllHold, FirstFail}
+use Rattle.base.specs.Checks.{Check, answer, first-fail, AllHold, FirstFail}
 use Rattle.base.proofs.Checks.{all-hold, checked-some, checked-none}
 use Rattle.extract.specs.Disk.{Disk}
-use Rattle.extract.specs.Extract.{Good, diskOf}
+use Rattle.extract.specs.Extract.{Good, extractChecks, diskOf}
+use Rattle.extract.specs.Answers.{headerOf, checkSays}
 use Rattle.extract.proofs.Disk.{size-below, sector-record}
-use Rattle.read.specs.Read.{Table, read}
-use Rattle.push.specs.Push.{Request}
 use Rattle.sound.specs.Sound.{Contents}
-use Rattle.careful.specs.Careful.{contents, Change, pushRefusals, pushChange, removeRefusals, removeChange, cratePush, crateRemove, inFirstPlace, carefulPush, carefulRemove}
-use Rattle.careful.specs.Demand3.{Safe, Careful, Whole, Asked, Demand3}
+use Rattle.careful.specs.Careful.{contents, Change, pushRefusals, pushChange, removeRefusals, removeChange, cratePush, crateRemove, inFirstPlace, carefulPush, carefulRemove, carefulPushSays, carefulRemoveSays}
+use Rattle.careful.specs.Demand3.{Safe, Careful, Whole, Demand3, OfExtract}
 use Rattle.careful.proofs.Shown.{read→shows, read→contents}
 use Rattle.careful.proofs.Crate.{push-same, remove-same}
 use Rattle.careful.proofs.Accepted.{push-accepted, remove-accepted}
@@ -57,6 +55,19 @@ demand3 d w = record {
 pub whole-of : (x : List ℕ) → Good x → Whole (diskOf x)
 whole-of x g = record { small = size-below x g; sectors = λ a h. sector-record x g a }
 
--- so demand 3 holds of every extract that keeps its rules
-pub extract-demand3 : (x : List ℕ) → Good x → Demand3 (diskOf x)
-extract-demand3 x g = demand3 (diskOf x) (whole-of x g)
+said-broken : (x : List ℕ) (k : ℕ) → FirstFail (extractChecks x) k → answer (extractChecks x) (headerOf x) ≡ refuses k
+said-broken x k f = checked-some (extractChecks x) refuses (gives (headerOf x)) k (first-fails (extractChecks x) k f)
+
+said-kept : (x : List ℕ) → AllHold (extractChecks x) → answer (extractChecks x) (headerOf x) ≡ gives (headerOf x)
+said-kept x h = checked-none (extractChecks x) refuses (gives (headerOf x)) (all-hold (extractChecks x) h)
+
+-- so demand 3 holds of all lent bytes
+pub extract-demand3 : (x : List ℕ) → Bytes x → OfExtract x
+unfolding carefulPushSays carefulRemoveSays checkSays
+extract-demand3 x b = record {
+  broken-push = λ k room q f. rw (said-broken x k f);
+  broken-remove = λ k room n f. rw (said-broken x k f);
+  push = λ h room q. rw (said-kept x h);
+  remove = λ h room n. rw (said-kept x h);
+  disk = λ h. demand3 (diskOf x) (whole-of x (record { rules = h; bytes = b }));
+}

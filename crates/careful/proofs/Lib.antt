@@ -11,3 +11,4 @@ pub mod Accepted
 pub mod Crate
 pub mod Demand3
 pub mod Output
+pub mod Laid

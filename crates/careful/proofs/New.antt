@@ -1,19 +1,18 @@
 -- What is known of a pushed partition once no refusal applies. Assumes nothing.
 use mathlib.Core.Path.{_≡_, refl, ap, sym, subst, _∙_}
-use mathlib.Core.Logic.{_⊎_, inl, inr}
-use mathlib.Core.Option.{Option, none, some}
-use mathlib.Core.Bool.{Bool, true, false, not, _&&_}
-use mathlib.Core.List.{List, [], _∷_, _++_}
-use Prim.Native.Nat.{ℕ, zero, suc, _+_, _-_, _*_, _/_, _^_, _≤_, _<_}
+use mathlib.Core.Logic.{inl}
+use mathlib.Core.Option.{none}
+use mathlib.Core.Bool.{Bool, true, false, _&&_}
+use mathlib.Core.List.{List, [], _++_}
+use Prim.Native.Nat.{ℕ, _+_, _-_, _*_, _/_, _≤_, _<_}
 use native.Mathlib.Omega.{arith}
 use lib.Dec.{ltb, leb, eqb}
-use lib.ListN.{length}
-use borrow.Author.Tests.{ltb-true, leb-true, eqb-false, not-true}
+use borrow.Author.Tests.{leb-true, eqb-false, not-true}
 use Rattle.base.specs.Pick.{pick}
 use Rattle.base.specs.Checks.{Check, AllHold}
 use Rattle.base.proofs.Checks.{hold-left, hold-right}
 use Rattle.chs.specs.declared.CHS.{CHS}
-use Rattle.chs.specs.Chs.{ChsOk}
+use Rattle.chs.specs.Chs.{noChs, ChsOk}
 use Rattle.chs.proofs.Small.{head-fits, sector-fits}
 use Rattle.entry.specs.declared.MBRPartitionEntry.{MBRPartitionEntry}
 use Rattle.entry.specs.Entry.{used, extended, endOf}
@@ -25,9 +24,9 @@ use Rattle.table.specs.declared.MaybeChs.the-variants.{Absent as NoChs, Present
 use Rattle.table.specs.declared.LogicalPartition.{LogicalPartition}
 use Rattle.chain.specs.Facts.{at, start}
 use Rattle.push.specs.declared.Geometry.{Geometry}
-use Rattle.push.specs.Address.{complete, addressIn, addressChecks, lastChecks, linkChecks, updateChecks, addressed}
+use Rattle.push.specs.Address.{complete, addressIn, addressChecks, lastChecks, linkChecks, updateChecks, linkAddress, addressed}
 use Rattle.push.specs.Push.{Request, placeOf, sizeOf, fresh, newLogical, geometryChecks}
-use Rattle.sound.specs.Sound.{end, Within, IfThere, Used, Extended}
+use Rattle.sound.specs.Sound.{end, Within, IfThere}
 use Rattle.sound.proofs.Good.{Good, Span}
 use Rattle.careful.specs.Demand3.{Asked}
 use Rattle.careful.proofs.Push.{Writable, Linkable}
@@ -67,9 +66,13 @@ pub record NewOk (later : Bool) (q : Request) (l : LogicalPartition) : Type 0 wh
   pub link : ChsOk (l .«ebr_first_chs»)
   pub tail : TailOk later (l .«ebr_last_chs»)
 
+tail-fresh : (later : Bool) → TailOk later (pick later (SomeChs noChs) NoChs)
+tail-fresh true = (noChs, refl, omega arith)
+tail-fresh false = refl
+
 unaddressed : (later : Bool) (q : Request) → NewOk later q (fresh later q)
 unfolding fresh
-unaddressed true q = record {
+unaddressed later q = record {
   place = refl;
   start = refl;
   sectors = refl;
@@ -80,28 +83,27 @@ unaddressed true q = record {
   first = omega arith;
   last = omega arith;
   link = omega arith;
-  tail = (record { cylinder = 0; head = 0; sector = 0 }, refl, omega arith);
+  tail = tail-fresh later;
 }
-unaddressed false q = record {
-  place = refl;
-  start = refl;
-  sectors = refl;
-  boot = refl;
-  sys = refl;
-  kept = refl;
-  span = refl;
-  first = omega arith;
-  last = omega arith;
-  link = omega arith;
-  tail = refl;
-}
+
+tail-at : (later : Bool) (g : Geometry) (a n : ℕ) → g .heads < 256 → complete g ≡ true → AllHold (linkChecks g a (pick later (Present n) Absent))
+    → TailOk later (linkAddress g a (pick later (Present n) Absent))
+tail-at true g a n heads c h = (addressIn g (a + n - 1), refl, address-ok g (a + n - 1) heads c (h .1 .1))
+tail-at false g a n heads c h = refl
 
 with-address : (later : Bool) (q : Request) → q .geometry .heads < 256 → complete (q .geometry) ≡ true → AllHold (updateChecks (q .geometry) (fresh later q))
     → NewOk later q (addressed (q .geometry) (fresh later q))
 unfolding fresh addressed updateChecks
-with-address true q heads c h =
+with-address later q heads c h =
     let g : Geometry = q .geometry in
-    let h₈ = h .1 .1 .1 .1 .1 .1 .1 .1 in
+    let s : ℕ = placeOf q + q .align in
+    let n : ℕ = sizeOf q - q .align in
+    let A : List Check = addressChecks g s in
+    let B : List Check = lastChecks g s n in
+    let C : List Check = addressChecks g (placeOf q) in
+    let L : List Check = linkChecks g (placeOf q) (pick later (Present (sizeOf q)) Absent) in
+    let abc : AllHold (A ++ B ++ C) = hold-left (A ++ B ++ C) L h in
+    let ab : AllHold (A ++ B) = hold-left (A ++ B) C abc in
     record {
       place = refl;
       start = refl;
@@ -110,28 +112,10 @@ with-address true q heads c h =
       sys = refl;
       kept = refl;
       span = refl;
-      first = address-ok g (placeOf q + q .align) heads c (h .0, (h .1 .0, (h .1 .1 .0, tt)));
-      last = address-ok g (placeOf q + q .align + (sizeOf q - q .align) - 1) heads c
-          (h .1 .1 .1 .1 .1 .0, (h .1 .1 .1 .1 .1 .1 .0, (h .1 .1 .1 .1 .1 .1 .1 .0, tt)));
-      link = address-ok g (placeOf q) heads c (h₈ .0, (h₈ .1 .0, (h₈ .1 .1 .0, tt)));
-      tail = (addressIn g (placeOf q + sizeOf q - 1), refl, address-ok g (placeOf q + sizeOf q - 1) heads c (h₈ .1 .1 .1 .1 .1));
-    }
-with-address false q heads c h =
-    let g : Geometry = q .geometry in
-    let h₈ = h .1 .1 .1 .1 .1 .1 .1 .1 in
-    record {
-      place = refl;
-      start = refl;
-      sectors = refl;
-      boot = refl;
-      sys = refl;
-      kept = refl;
-      span = refl;
-      first = address-ok g (placeOf q + q .align) heads c (h .0, (h .1 .0, (h .1 .1 .0, tt)));
-      last = address-ok g (placeOf q + q .align + (sizeOf q - q .align) - 1) heads c
-          (h .1 .1 .1 .1 .1 .0, (h .1 .1 .1 .1 .1 .1 .0, (h .1 .1 .1 .1 .1 .1 .1 .0, tt)));
-      link = address-ok g (placeOf q) heads c h₈;
-      tail = refl;
+      first = address-ok g s heads c (hold-left A B ab);
+      last = address-ok g (s + n - 1) heads c (hold-right A B ab .1 .1);
+      link = address-ok g (placeOf q) heads c (hold-right (A ++ B) C abc);
+      tail = tail-at later g (placeOf q) (sizeOf q) heads c (hold-right (A ++ B ++ C) L h);
     }
 
 pub new-ok : (later : Bool) (q : Request) → Asked q → AllHold (geometryChecks later q) → NewOk later q (newLogical later q)

@@ -1,11 +1,9 @@
 -- Document 01's numbers of careful changes on disk K, computed. Assumes nothing.
 use mathlib.Core.Path.{_≡_, refl}
-use mathlib.Core.Option.{Option, none, some}
-use mathlib.Core.Bool.{Bool, true, false}
 use mathlib.Core.List.{List, [], _∷_, _++_, map}
 use Prim.Native.Nat.{ℕ}
 use lib.Dec.{eqb}
-use lib.ListN.{replicate, length}
+use lib.ListN.{replicate}
 use Rattle.base.specs.Pick.{pick}
 use Rattle.base.specs.Said.{Said, gives, refuses}
 use Rattle.chs.specs.Chs.{noChs}
@@ -13,18 +11,16 @@ use Rattle.entry.specs.declared.MBRPartitionEntry.{MBRPartitionEntry}
 use Rattle.entry.specs.Entry.{entryBytes, noEntry}
 use Rattle.ebr.specs.Ebr.{keptOf, noKept, ebrBytes}
 use Rattle.mbr.specs.Mbr.{codeOf, extendedOf}
-use Rattle.extract.specs.Disk.{Disk, Store, stored, after}
+use Rattle.extract.specs.Disk.{Disk, stored, after}
 use Rattle.chain.specs.Chain.{view, placed, follow, chain, logicalsOf}
 use Rattle.chain.specs.Facts.{nextOf, linkIn, bodyOf}
 use Rattle.align.specs.Align.{usedStarts, dividesAll, largest, divisorTo, alignment}
-use Rattle.read.specs.Read.{Table, headerOn, withChain, read}
-use Rattle.push.specs.declared.Geometry.{Geometry}
+use Rattle.read.specs.Read.{headerOn, withChain, read}
 use Rattle.push.specs.Address.{complete, updateChecks, addressed}
 use Rattle.push.specs.Push.{Request, rounded, fresh, newLogical, roundChecks, placeChecks, endChecks, geometryChecks, pushChecks, pushed}
-use Rattle.push.specs.Remove.{without}
 use Rattle.sound.specs.Is.{allb, pairsb, rowb}
 use Rattle.sound.specs.Sound.{areaStart, areaEnd, end, signedb, flagsb, addressesb, startsb, sizesb, onDiskb, allApartb, oneExtendedb, ownedb, logicalsUsedb, logicalsPlainb, logicalsSizedb, afterEbrb, endsb, firstAtb, ascendb, linksSizedb, linksEndb, linksCoverb, soundRules, soundb}
-use Rattle.careful.specs.Stores.{linkEntry, ebrFor, write, wipe, moved, firstPlace, lastOf, pushStores, skipStore, removeStore}
+use Rattle.careful.specs.Stores.{linkEntry, ebrFor, write, wipe, moved, firstPlace, leftOut, lastOf, pushStores, skipStore, removeStore}
 use Rattle.careful.specs.Careful.{Change, relist, tooWide, askChecks, lastEnd, spaceChecks, pushRefusals, pushChange, removeRefusals, removeChange, carefulPush, carefulRemove}
 
 entry : ℕ → ℕ → ℕ → MBRPartitionEntry
@@ -70,5 +66,5 @@ k-numbers : onK 8192 4096 ∷ onK 8191 4096 ∷ onK 16384 4096 ∷ onK 16384 409
     ∷ onE 1023 255 63 ∷ onE 0 0 0 ∷ onE 1023 255 64 ∷ out 5 1032 ∷ out 4 1032 ∷ out 6 1032 ∷ out 5 1031 ∷ []
     ≡ (0 ∷ 8192 ∷ 4096 ∷ []) ∷ (0 ∷ 8192 ∷ 4096 ∷ []) ∷ (0 ∷ 16384 ∷ 4096 ∷ []) ∷ (12 ∷ []) ∷ (11 ∷ []) ∷ (10 ∷ []) ∷ (21 ∷ []) ∷ (7 ∷ []) ∷ (0 ∷ 8192 ∷ 4096 ∷ []) ∷ (9 ∷ [])
     ∷ (7 ∷ []) ∷ (12 ∷ []) ∷ (23 ∷ []) ∷ (0 ∷ 4096 ∷ []) ∷ (17 ∷ []) ∷ (17 ∷ []) ∷ (19 ∷ []) ∷ []
-unfolding onK onE out summary request K E disk ebrK entry keptOf noKept ebrBytes codeOf extendedOf stored after view placed follow chain logicalsOf nextOf linkIn bodyOf usedStarts dividesAll largest divisorTo alignment headerOn withChain read complete updateChecks addressed rounded fresh newLogical roundChecks placeChecks endChecks geometryChecks pushChecks pushed without allb pairsb rowb areaStart areaEnd end signedb flagsb addressesb startsb sizesb onDiskb allApartb oneExtendedb ownedb logicalsUsedb logicalsPlainb logicalsSizedb afterEbrb endsb firstAtb ascendb linksSizedb linksEndb linksCoverb soundRules soundb linkEntry ebrFor write wipe moved firstPlace lastOf pushStores skipStore removeStore relist tooWide askChecks lastEnd spaceChecks pushRefusals pushChange removeRefusals removeChange carefulPush carefulRemove
+unfolding onK onE out summary request K E disk ebrK entry keptOf noKept ebrBytes codeOf extendedOf stored after view placed follow chain logicalsOf nextOf linkIn bodyOf usedStarts dividesAll largest divisorTo alignment headerOn withChain read complete updateChecks addressed rounded fresh newLogical roundChecks placeChecks endChecks geometryChecks pushChecks pushed leftOut allb pairsb rowb areaStart areaEnd end signedb flagsb addressesb startsb sizesb onDiskb allApartb oneExtendedb ownedb logicalsUsedb logicalsPlainb logicalsSizedb afterEbrb endsb firstAtb ascendb linksSizedb linksEndb linksCoverb soundRules soundb linkEntry ebrFor write wipe moved firstPlace lastOf pushStores skipStore removeStore relist tooWide askChecks lastEnd spaceChecks pushRefusals pushChange removeRefusals removeChange carefulPush carefulRemove
 k-numbers = refl

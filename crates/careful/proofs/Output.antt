@@ -1,16 +1,16 @@
 -- The stores are read back from the lent output; a disk stays whole under safe changes. Assumes nothing.
-use mathlib.Core.Path.{_≡_, refl, ap, sym, subst, _∙_}
+use mathlib.Core.Path.{_≡_, refl, ap, _∙_}
 use mathlib.Core.Bool.{Bool, true, false}
 use mathlib.Core.List.{List, [], _∷_, _++_, append-assoc}
-use Prim.Native.Nat.{ℕ, zero, suc, _+_, _^_, _≤_, _<_}
+use Prim.Native.Nat.{ℕ, _+_, _^_, _<_}
 use native.Mathlib.Omega.{arith}
 use lib.Dec.{eqb}
 use lib.ListN.{length, take, drop, length-append}
-use lib.Seq.{take-at, drop-at, drop-drop}
+use lib.Seq.{take-at, drop-at}
 use borrow.Author.Tests.{eqb-true, eqb-false}
 use Rattle.base.specs.Bytes.{Record, number, bytesOf, little}
 use Rattle.base.specs.Put.{put}
-use Rattle.base.specs.Said.{Said, gives}
+use Rattle.base.specs.Said.{gives}
 use Rattle.base.proofs.Bytes.{number-bytesOf, length-bytesOf}
 use Rattle.extract.specs.Disk.{Disk, Store, stored, after}
 use Rattle.extract.proofs.Disk.{sector-same, sector-other, size-stored}

@@ -1,11 +1,10 @@
 -- Where logical partitions lie: each after its EBR, and before the next EBR or the end of the extended partition. Assumes nothing.
-use mathlib.Core.Path.{_≡_}
 use mathlib.Core.Logic.{_≢_}
 use mathlib.Core.Option.{Option, none, some}
 use mathlib.Core.List.{List, [], _∷_, _++_}
-use Prim.Native.Nat.{ℕ, suc, _+_, _≤_, _<_}
+use Prim.Native.Nat.{ℕ, suc, _≤_, _<_}
 use native.Mathlib.Omega.{arith}
-use Rattle.base.specs.Row.{next, Row}
+use Rattle.base.specs.Row.{Row}
 use Rattle.base.proofs.Row.{row-zip, row-map}
 use Rattle.entry.specs.Entry.{endOf}
 use Rattle.table.specs.declared.LogicalPartition.{LogicalPartition}

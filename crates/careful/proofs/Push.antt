@@ -1,20 +1,18 @@
 -- Careful push behind an EBR of the chain: the new EBR first, then the one before it with a link to it. Assumes nothing.
-use mathlib.Core.Path.{_≡_, refl, ap, sym, subst, _∙_}
-use mathlib.Core.Logic.{_≢_, _⊎_, inl, inr}
+use mathlib.Core.Path.{_≡_, ap, subst, _∙_}
+use mathlib.Core.Logic.{_⊎_, inl, inr}
 use mathlib.Core.Option.{Option, none, some}
-use mathlib.Core.Bool.{Bool, true, false}
 use mathlib.Core.List.{List, [], _∷_, _++_}
-use Prim.Native.Nat.{ℕ, zero, suc, _+_, _-_, _^_, _≤_, _<_}
+use Prim.Native.Nat.{ℕ, _^_, _≤_, _<_}
 use native.Mathlib.Omega.{arith}
 use lib.ListN.{length}
-use Rattle.base.specs.Bytes.{Record}
-use Rattle.base.specs.Said.{Said, gives}
+use Rattle.base.specs.Said.{gives}
 use Rattle.base.specs.Row.{next, Row}
 use Rattle.base.proofs.Row.{row-left, row-right, row-join}
 use Rattle.chs.specs.declared.CHS.{CHS}
 use Rattle.chs.specs.Chs.{ChsOk}
 use Rattle.entry.specs.declared.MBRPartitionEntry.{MBRPartitionEntry}
-use Rattle.entry.specs.Entry.{flagOk, EntryOk, endOf}
+use Rattle.entry.specs.Entry.{endOf}
 use Rattle.ebr.specs.Ebr.{KeptOk}
 use Rattle.extract.specs.Disk.{Disk, Store, stored}
 use Rattle.extract.proofs.Disk.{sector-other, size-stored, width-stored}
@@ -24,13 +22,13 @@ use Rattle.table.specs.Table.{most}
 use Rattle.chain.specs.Facts.{seen, at, start, linkIn, bodyOf, leads, Held}
 use Rattle.sound.specs.Is.{All}
 use Rattle.sound.specs.Sound.{Contents, extendedIn, end, Sound}
-use Rattle.sound.proofs.Good.{Good, Span, Area}
+use Rattle.sound.proofs.Good.{Good, Span}
 use Rattle.sound.proofs.Test.{is-flag}
 use Rattle.careful.specs.Stores.{write}
 use Rattle.careful.specs.Careful.{relist}
 use Rattle.careful.specs.Demand3.{contentsOn, In, ClearOf, Safe}
 use Rattle.careful.proofs.Places.{Fit, good-fit, fit-of, Clear, Off, clear-under, clear-over, off-under, off-over, all-of, all-skip}
-use Rattle.careful.proofs.Written.{BodyOk, LinkOk, NextOk, image, Put, write-put, write-record, held-off, relink}
+use Rattle.careful.proofs.Written.{BodyOk, NextOk, image, Put, write-put, write-record, held-off, relink}
 use Rattle.careful.proofs.Shown.{Shows, Heads, heads-first, heads-swap, rebuilt, relist-sound, relist-same, clear-of, safe-two}
 use Rattle.careful.proofs.Split.{Split}
 

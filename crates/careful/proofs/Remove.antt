@@ -1,12 +1,11 @@
 -- Careful removal behind an EBR of the chain, and every change that is one store at the start of the extended partition. Assumes nothing.
-use mathlib.Core.Path.{_≡_, refl, ap, sym, subst, _∙_}
+use mathlib.Core.Path.{_≡_, refl, sym, subst}
 use mathlib.Core.Option.{Option, none, some}
 use mathlib.Core.List.{List, [], _∷_, _++_}
-use Prim.Native.Nat.{ℕ, zero, suc, _+_, _-_, _^_, _≤_, _<_}
+use Prim.Native.Nat.{ℕ, _^_, _≤_, _<_}
 use native.Mathlib.Omega.{arith}
 use lib.ListN.{length, length-append}
-use Rattle.base.specs.Bytes.{Record}
-use Rattle.base.specs.Said.{Said, gives}
+use Rattle.base.specs.Said.{gives}
 use Rattle.base.specs.Checks.{answer}
 use Rattle.base.specs.Row.{next, Row}
 use Rattle.base.proofs.Row.{row-join}
@@ -18,15 +17,14 @@ use Rattle.extract.specs.Extract.{blank}
 use Rattle.extract.proofs.Disk.{sector-other, size-stored, width-stored, record-blank}
 use Rattle.table.specs.declared.LogicalPartition.{LogicalPartition}
 use Rattle.table.specs.Table.{most}
-use Rattle.chain.specs.Chain.{firstLink}
-use Rattle.chain.specs.Facts.{View, bad, viewed, seen, at, start, linkIn, bodyOf, leads, Held}
+use Rattle.chain.specs.Facts.{bad, viewed, seen, at, start, linkIn, bodyOf, leads, Held}
 use Rattle.sound.specs.Is.{All}
 use Rattle.sound.specs.Sound.{Contents, extendedIn, end, Sound}
 use Rattle.sound.proofs.Good.{Good, Area, area-of, extended-small}
 use Rattle.careful.specs.Stores.{write, wipe, moved}
 use Rattle.careful.specs.Careful.{relist}
 use Rattle.careful.specs.Demand3.{contentsOn, In, ClearOf, Safe}
-use Rattle.careful.proofs.Places.{Fit, good-fit, fit-of, Clear, clear-under, clear-over, all-of, all-skip, all-join}
+use Rattle.careful.proofs.Places.{Fit, fit-of, Clear, clear-under, clear-over, all-of, all-skip, all-join}
 use Rattle.careful.proofs.Written.{BodyOk, NextOk, image, Put, store-put, write-put, write-record, relink}
 use Rattle.careful.proofs.Shown.{Shows, Heads, heads-first, heads-swap, rebuilt, rebuilt-empty, relist-sound, relist-same, clear-of, safe-one}
 use Rattle.careful.proofs.Split.{Split}

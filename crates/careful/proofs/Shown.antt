@@ -1,17 +1,16 @@
 -- A disk that keeps its MBR and holds a sound chain reads as the table with that chain; safe changes of one and of two stores. Assumes nothing.
-use mathlib.Core.Path.{_≡_, refl, ap, sym, subst, _∙_}
-use mathlib.Core.Logic.{_≢_, _⊎_, inl, inr}
-use mathlib.Core.Option.{Option, none, some}
-use mathlib.Core.Bool.{Bool, true, false}
+use mathlib.Core.Path.{_≡_, refl, sym, subst, _∙_}
+use mathlib.Core.Logic.{_⊎_, inl, inr}
+use mathlib.Core.Option.{none, some}
+use mathlib.Core.Bool.{false}
 use mathlib.Core.List.{List, [], _∷_, _++_}
-use Prim.Native.Nat.{ℕ, zero, suc, _+_, _-_, _^_, _≤_, _<_}
+use Prim.Native.Nat.{ℕ, zero, suc, _^_, _≤_, _<_}
 use native.Mathlib.Nat.{add-zero}
 use native.Mathlib.Omega.{arith}
 use lib.ListN.{length, take}
-use Rattle.base.specs.Pick.{pick}
 use Rattle.base.specs.Bytes.{Record}
-use Rattle.base.specs.Said.{Said, gives, refuses, andThen}
-use Rattle.base.specs.Row.{next, Row}
+use Rattle.base.specs.Said.{gives}
+use Rattle.base.specs.Row.{Row}
 use Rattle.base.proofs.Row.{row-zip}
 use Rattle.entry.specs.declared.MBRPartitionEntry.{MBRPartitionEntry}
 use Rattle.entry.specs.Entry.{extended, endOf}
@@ -19,16 +18,16 @@ use Rattle.mbr.specs.Mbr.{extendedOf}
 use Rattle.extract.specs.Disk.{Disk, Store, stored, after}
 use Rattle.table.specs.declared.LogicalPartition.{LogicalPartition}
 use Rattle.table.specs.Table.{most, parts}
-use Rattle.chain.specs.Chain.{Link, firstLink}
-use Rattle.chain.specs.Facts.{View, seen, at, linkIn, Held, Plain, Rows, Empty, Holds}
+use Rattle.chain.specs.Chain.{firstLink}
+use Rattle.chain.specs.Facts.{View, seen, at, linkIn, Held, Plain, Empty, Holds}
 use Rattle.align.specs.Align.{usedStarts}
 use Rattle.read.specs.Read.{Table, headerOn, read}
 use Rattle.read.specs.Facts.{Reads}
 use Rattle.read.proofs.Facts.{reads→read, read→reads, header-same}
 use Rattle.sound.specs.Is.{All, Pairs}
 use Rattle.sound.specs.Sound.{Contents, primariesOf, extendedIn, Used, Extended, Apart, FirstAt, Sound}
-use Rattle.sound.proofs.Good.{Good, Area, area-of, resound, extended-used, ext-go, ext-all}
-use Rattle.careful.specs.Careful.{contents, relist, Change}
+use Rattle.sound.proofs.Good.{Good, area-of, resound, extended-used, ext-go, ext-all}
+use Rattle.careful.specs.Careful.{contents, relist}
 use Rattle.careful.specs.Demand3.{contentsOn, In, ClearOf, Safe}
 use Rattle.careful.proofs.Places.{Fit, fit-of, before-fit, Over, Under, row-over, row-under}
 use Rattle.careful.proofs.Aligned.{Aligned, aligned}

@@ -1,10 +1,8 @@
 -- A table that was read, taken apart at one of its logical partitions. Assumes nothing.
-use mathlib.Core.Path.{_≡_, refl, ap, sym, subst, _∙_}
-use mathlib.Core.Logic.{_⊎_, inl, inr}
-use mathlib.Core.Option.{Option, none, some}
-use mathlib.Core.Bool.{Bool, true, false}
+use mathlib.Core.Path.{_≡_}
+use mathlib.Core.Option.{none, some}
 use mathlib.Core.List.{List, [], _∷_, _++_}
-use Prim.Native.Nat.{ℕ, zero, suc, _+_, _-_, _^_, _≤_, _<_}
+use Prim.Native.Nat.{ℕ, _≤_, _<_}
 use native.Mathlib.Omega.{arith}
 use lib.ListN.{length}
 use Rattle.base.specs.Row.{next, Row}
@@ -19,7 +17,7 @@ use Rattle.sound.specs.Sound.{Contents, extendedIn, end, FirstAt, Sound}
 use Rattle.sound.proofs.Good.{Good, Area, area-of, extended-small, sound-first, sound-row}
 use Rattle.careful.specs.Demand3.{Whole}
 use Rattle.careful.proofs.Places.{Fit, good-fit, fit-of, Over, Under, row-over, row-under}
-use Rattle.careful.proofs.Written.{BodyOk, NextOk, image, seen-ok}
+use Rattle.careful.proofs.Written.{BodyOk, NextOk, seen-ok}
 use Rattle.careful.proofs.Shown.{Shows, Heads, holds-held, holds-few, holds-heads-at}
 
 -- the table `ls ++ l ∷ ms` in the extended entry `e`, held by the disk

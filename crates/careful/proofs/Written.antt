@@ -1,36 +1,35 @@
 -- An EBR written and seen again; one store, and what a held chain is then. Assumes nothing.
 use mathlib.Core.Path.{_≡_, refl, ap, sym, subst, _∙_}
-use mathlib.Core.Logic.{_≢_, _⊎_, inl, inr}
+use mathlib.Core.Logic.{_≢_}
 use mathlib.Core.Option.{Option, none, some}
 use mathlib.Core.Bool.{Bool, true, false}
 use mathlib.Core.List.{List, [], _∷_, _++_}
-use Prim.Native.Nat.{ℕ, zero, suc, _+_, _-_, _^_, _≤_, _<_}
+use Prim.Native.Nat.{ℕ, _^_, _<_}
 use native.Mathlib.Omega.{arith}
-use lib.Dec.{eqb, ltb}
-use borrow.Author.Tests.{eqb-true, eqb-false, eq-eqb, ne-eqb}
+use lib.Dec.{eqb}
+use borrow.Author.Tests.{eqb-false, ne-eqb}
 use Rattle.base.specs.Pick.{pick}
 use Rattle.base.specs.Bytes.{Record}
-use Rattle.base.specs.Said.{Said, gives, refuses}
-use Rattle.base.specs.Checks.{Check, _!_, checked, answer, AllHold}
+use Rattle.base.specs.Said.{gives, refuses}
+use Rattle.base.specs.Checks.{answer}
 use Rattle.base.specs.Row.{next, Row}
 use Rattle.base.proofs.Checks.{none-fails, all-hold, checked-none}
 use Rattle.base.proofs.Row.{row-zip, row-join}
 use Rattle.chs.specs.declared.CHS.{CHS}
 use Rattle.chs.specs.Chs.{ChsOk}
 use Rattle.entry.specs.declared.MBRPartitionEntry.{MBRPartitionEntry}
-use Rattle.entry.specs.Entry.{flagOk, EntryOk, endOf}
+use Rattle.entry.specs.Entry.{flagOk, EntryOk}
 use Rattle.ebr.specs.declared.EBRHeader.{EBRHeader}
 use Rattle.ebr.specs.Ebr.{ebrChecks, lentChecks, ebrOf, ebrBytes, KeptOk, EbrOk}
 use Rattle.ebr.proofs.Laws.{ebr-back, ebr-reads, ebr-record, ebr-ok}
 use Rattle.extract.specs.Disk.{Disk, Store, stored}
 use Rattle.extract.proofs.Disk.{sector-same, sector-other, size-stored}
-use Rattle.table.specs.declared.MaybeSectors.the-variants.{Absent, Present}
-use Rattle.table.specs.declared.MaybeChs.the-variants.{Absent as NoChs, Present as SomeChs}
+use Rattle.table.specs.declared.MaybeSectors.the-variants.{Present}
+use Rattle.table.specs.declared.MaybeChs.the-variants.{Present as SomeChs}
 use Rattle.table.specs.declared.LogicalPartition.{LogicalPartition}
 use Rattle.chain.specs.Chain.{view, Link, linkOf}
-use Rattle.chain.specs.Facts.{Body, Next, stop, to, View, bad, ebr, nextOf, bodyIn, viewed, seen, at, start, linkIn, bodyOf, leads, Held}
+use Rattle.chain.specs.Facts.{Body, Next, stop, to, View, ebr, nextOf, bodyIn, viewed, seen, at, start, bodyOf, leads, Held}
 use Rattle.chain.proofs.View.{view→facts, view-inside, view-same, Seen, seen→view}
-use Rattle.sound.specs.Sound.{end, bound}
 use Rattle.careful.specs.Stores.{linkEntry, ebrFor, write}
 use Rattle.careful.specs.Demand3.{Whole}
 use Rattle.careful.proofs.Places.{Fit, Off, off-under, off-over}

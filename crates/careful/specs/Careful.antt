@@ -1,12 +1,12 @@
 -- Careful push and careful removal on a disk: refusals in their order, else the stores and the table after. Assumes nothing.
 use Prim.Native.Nat.{ℕ, _+_, _-_}
-use mathlib.Core.Bool.{Bool, true, false, not, _&&_}
-use mathlib.Core.Option.{Option, none, some, Option·getD}
+use mathlib.Core.Bool.{Bool, not, _&&_}
+use mathlib.Core.Option.{Option·getD}
 use mathlib.Core.List.{List, [], _∷_, _++_}
 use lib.Dec.{ltb, leb}
 use lib.ListN.{length}
-use Rattle.base.specs.Said.{Said, gives, refuses, andThen}
-use Rattle.base.specs.Checks.{Check, _!_, checked, answer}
+use Rattle.base.specs.Said.{Said, andThen}
+use Rattle.base.specs.Checks.{Check, _!_, answer}
 use Rattle.entry.specs.declared.MBRPartitionEntry.{MBRPartitionEntry}
 use Rattle.entry.specs.Entry.{noEntry, used, extended}
 use Rattle.extract.specs.Disk.{Disk, Store}
@@ -15,11 +15,11 @@ use Rattle.extract.specs.Answers.{checkSays}
 use Rattle.table.specs.declared.LogicalPartition.{LogicalPartition}
 use Rattle.table.specs.declared.MBR.{MBR}
 use Rattle.read.specs.Read.{Table, read, tableOf}
+use Rattle.lookup.specs.Remove.{removedTable}
 use Rattle.push.specs.declared.Geometry.{Geometry}
 use Rattle.push.specs.Push.{Request, placeOf, sizeOf, laterThan, newLogical, pushChecks, pushed, pushTable}
-use Rattle.push.specs.Remove.{removeChecks, without, removeTable}
 use Rattle.sound.specs.Sound.{Contents, contentsOf, extendedIn, areaEnd, end, soundb}
-use Rattle.careful.specs.Stores.{firstPlace, lastOf, pushStores, removeStore}
+use Rattle.careful.specs.Stores.{firstPlace, leftOut, lastOf, pushStores, removeStore}
 
 -- what is read, but for the alignment, which no disk holds
 abbrev pub contents : Table → Contents
@@ -79,14 +79,15 @@ pushChange q t =
 
 -- those of a careful removal, after reading's: 20, 17, 19
 unfoldable pub removeRefusals : ℕ → ℕ → Contents → List Check
-removeRefusals room n t = (20 ! soundb t) ∷ removeChecks n (length (t .logicals)) ++ (19 ! leb roomNeeded room) ∷ []
+removeRefusals room n t =
+    (20 ! soundb t) ∷ (17 ! leb 5 n) ∷ (17 ! ltb (n - 5) (length (t .logicals))) ∷ (19 ! leb roomNeeded room) ∷ []
 
 -- its store; the list without that one, and the first-place rule holds
 unfoldable pub removeChange : ℕ → Contents → Change
 removeChange n t =
     record {
       stores = removeStore (areaOf t) (t .logicals) (n - 5) ∷ [];
-      result = relist t (firstPlace (areaOf t) (without (t .logicals) (n - 5)));
+      result = relist t (firstPlace (areaOf t) (leftOut (t .logicals) (n - 5)));
     }
 
 -- a table by value with the request's alignment and geometry, as the crate's push takes it
@@ -109,7 +110,7 @@ unfoldable pub cratePush : Request → Table → Contents
 cratePush q t = contentsOf (pushTable (asAsked (tableOf t) q) (q .sys) (q .start) (q .sectors))
 
 unfoldable pub crateRemove : ℕ → Table → Contents
-crateRemove n t = contentsOf (removeTable (tableOf t) n)
+crateRemove n t = contentsOf (removedTable (tableOf t) n)
 
 -- a table under the first-place rule
 unfoldable pub inFirstPlace : Contents → Contents

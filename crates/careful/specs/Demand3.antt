@@ -10,11 +10,13 @@ use Rattle.base.specs.Checks.{Check, AllHold, FirstFail}
 use Rattle.entry.specs.declared.MBRPartitionEntry.{MBRPartitionEntry}
 use Rattle.entry.specs.Entry.{endOf}
 use Rattle.extract.specs.Disk.{Disk, Store, after}
+use Rattle.extract.specs.Extract.{extractChecks, mostRecords, diskOf}
+use Rattle.layover.specs.Layover.{newRecords, newExtract}
 use Rattle.read.specs.Read.{Table, read}
 use Rattle.push.specs.Push.{Request}
 use Rattle.sound.specs.Is.{All}
 use Rattle.sound.specs.Sound.{Contents, primariesOf, Used, Extended, Sound}
-use Rattle.careful.specs.Careful.{contents, Change, pushRefusals, pushChange, removeRefusals, removeChange, cratePush, crateRemove, inFirstPlace, carefulPush, carefulRemove}
+use Rattle.careful.specs.Careful.{contents, Change, pushRefusals, pushChange, removeRefusals, removeChange, cratePush, crateRemove, inFirstPlace, carefulPush, carefulRemove, carefulPushSays, carefulRemoveSays}
 
 -- what a disk reads as, alignment left out
 unfoldable pub contentsOn : Disk → Said Contents
@@ -72,3 +74,27 @@ pub record Demand3 (d : Disk) : Type 0 where
       → Careful d (contents t) (pushRefusals room q (contents t)) (pushChange q (contents t)) (cratePush q t) (carefulPush d room q)
   pub remove : (t : Table) → read d ≡ gives t → (room n : ℕ)
       → Careful d (contents t) (removeRefusals room n (contents t)) (removeChange n (contents t)) (crateRemove n t) (carefulRemove d room n)
+
+-- Demand 3, of lent bytes: the extract's refusals come first, then the disk that it stands for has it
+pub record OfExtract (x : List ℕ) : Type 0 where
+  pub broken-push : (k room : ℕ) (q : Request) → FirstFail (extractChecks x) k → carefulPushSays x room q ≡ refuses k
+  pub broken-remove : (k room n : ℕ) → FirstFail (extractChecks x) k → carefulRemoveSays x room n ≡ refuses k
+  pub push : AllHold (extractChecks x) → (room : ℕ) (q : Request) → carefulPushSays x room q ≡ carefulPush (diskOf x) room q
+  pub remove : AllHold (extractChecks x) → (room n : ℕ) → carefulRemoveSays x room n ≡ carefulRemove (diskOf x) room n
+  pub disk : AllHold (extractChecks x) → Demand3 (diskOf x)
+
+-- an extract with stores laid over it one after another
+unfoldable pub layAll : List ℕ → List Store → List ℕ
+layAll x [] = x
+layAll x (s ∷ ss) = layAll (newExtract x (s .lba) (s .bytes)) ss
+
+-- none of them is refused as a 65th record
+abbrev pub NoneTooMany : List ℕ → List Store → Type 0
+NoneTooMany x [] = Unit {0}
+NoneTooMany x (s ∷ ss) = (length (newRecords x (s .lba) (s .bytes)) ≤ mostRecords) × NoneTooMany (newExtract x (s .lba) (s .bytes)) ss
+
+-- a safe change laid over the extract: after each store it reads as the table before or after, after all as the table after
+pub record SafeLaid (x : List ℕ) (t : Contents) (c : Change) : Type 0 where
+  pub stops : (k : ℕ) → NoneTooMany x (take k (c .stores))
+      → (contentsOn (diskOf (layAll x (take k (c .stores)))) ≡ gives t) ⊎ (contentsOn (diskOf (layAll x (take k (c .stores)))) ≡ gives (c .result))
+  pub done : NoneTooMany x (c .stores) → contentsOn (diskOf (layAll x (c .stores))) ≡ gives (c .result)

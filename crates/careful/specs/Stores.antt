@@ -1,7 +1,8 @@
 -- An EBR as a store; the first-place rule; the stores of a push and of a removal. Assumes nothing.
-use Prim.Native.Nat.{ℕ, zero, suc}
+use Prim.Native.Nat.{ℕ, zero, suc, _+_}
 use mathlib.Core.Option.{Option, none, some}
 use mathlib.Core.List.{List, [], _∷_, _++_}
+use lib.ListN.{take, drop}
 use Rattle.base.specs.Row.{next}
 use Rattle.chs.specs.declared.CHS.{CHS}
 use Rattle.chs.specs.Chs.{noChs}
@@ -76,6 +77,10 @@ firstPlace e (l ∷ ls) = moved e l ∷ ls
 unfoldable pub lastOf : LogicalPartition → List LogicalPartition → LogicalPartition
 lastOf l [] = l
 lastOf l (m ∷ ms) = lastOf m ms
+
+-- the list without the one at place i, counted from 0
+unfoldable pub leftOut : List LogicalPartition → ℕ → List LogicalPartition
+leftOut ls i = take i ls ++ drop (i + 1) ls
 
 -- into an empty chain one record at X; else the new EBR, then the former last
 unfoldable pub pushStores : MBRPartitionEntry → List LogicalPartition → LogicalPartition → List Store

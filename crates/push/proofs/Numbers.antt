@@ -1,14 +1,14 @@
 -- Document 01's numbers of push, computed: disk K, and a first end of exactly 2^32. Assumes nothing.
 use mathlib.Core.Path.{_≡_, refl}
 use mathlib.Core.Option.{Option, none, some}
-use mathlib.Core.List.{List, [], _∷_, _++_, map}
+use mathlib.Core.List.{[], _∷_}
 use Prim.Native.Nat.{ℕ}
 use Rattle.base.specs.Checks.{first-fail}
 use Rattle.chs.specs.Chs.{noChs}
 use Rattle.entry.specs.declared.MBRPartitionEntry.{MBRPartitionEntry}
 use Rattle.push.specs.declared.Geometry.{Geometry}
 use Rattle.push.specs.Address.{complete, updateChecks}
-use Rattle.push.specs.Push.{Request, rounded, fresh, roundChecks, placeChecks, endChecks, geometryChecks, pushChecks}
+use Rattle.push.specs.Push.{rounded, fresh, roundChecks, placeChecks, endChecks, geometryChecks, pushChecks}
 
 entry : ℕ → ℕ → MBRPartitionEntry
 entry s n = record { boot = 0; «first_chs» = noChs; sys = 5; «last_chs» = noChs; «starting_lba» = s; sectors = n }

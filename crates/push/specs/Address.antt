@@ -3,8 +3,8 @@ use Prim.Native.Nat.{ℕ, _+_, _*_, _-_, _/_, _^_}
 use mathlib.Core.List.{List, [], _∷_, _++_}
 use mathlib.Core.Bool.{Bool, not, _&&_}
 use lib.Dec.{ltb, leb, eqb}
-use Rattle.base.specs.Said.{Said, gives, refuses}
-use Rattle.base.specs.Checks.{Check, _!_, checked, answer}
+use Rattle.base.specs.Said.{Said}
+use Rattle.base.specs.Checks.{Check, _!_, answer}
 use Rattle.chs.specs.declared.CHS.{CHS}
 use Rattle.chs.specs.Chs.{addressOf}
 use Rattle.table.specs.declared.MaybeSectors.{MaybeSectors}

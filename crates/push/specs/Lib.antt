@@ -1,4 +1,3 @@
 pub mod Address
 pub mod Push
 pub mod Answers
-pub mod Remove

@@ -6,7 +6,7 @@ use mathlib.Core.Option.{Option, none, some}
 use lib.Dec.{ltb, leb}
 use lib.ListN.{length, set}
 use Rattle.base.specs.Pick.{pick}
-use Rattle.base.specs.Said.{Said, gives, refuses}
+use Rattle.base.specs.Said.{Said}
 use Rattle.base.specs.Checks.{Check, _!_, checked, answer}
 use Rattle.chs.specs.Chs.{noChs}
 use Rattle.entry.specs.declared.MBRPartitionEntry.{MBRPartitionEntry}

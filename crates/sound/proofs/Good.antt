@@ -1,13 +1,13 @@
 -- The chain of a sound table as one row of facts, both ways; what its extended entry is. Assumes nothing.
-use mathlib.Core.Path.{_≡_, refl, ap, sym, subst, _∙_}
-use mathlib.Core.Logic.{_≢_, _⊎_, inl, inr}
+use mathlib.Core.Path.{_≡_, refl, sym, subst}
+use mathlib.Core.Logic.{_⊎_, inl, inr}
 use mathlib.Core.Option.{Option, none, some}
 use mathlib.Core.Bool.{Bool, true, false, not}
-use mathlib.Core.List.{List, [], _∷_, _++_}
+use mathlib.Core.List.{List, [], _∷_}
 use Prim.Native.Nat.{ℕ, _+_, _≤_, _<_}
 use native.Mathlib.Omega.{arith}
-use lib.Dec.{eqb, ltb}
-use borrow.Author.Tests.{ltb-true, ltb-false, ne-eqb, eqb-true, not-false}
+use lib.Dec.{eqb}
+use borrow.Author.Tests.{eqb-true}
 use Rattle.base.specs.Pick.{pick, among}
 use Rattle.base.specs.Row.{Row, next}
 use Rattle.base.proofs.Row.{row-map}
@@ -20,7 +20,7 @@ use Rattle.table.specs.declared.LogicalPartition.{LogicalPartition}
 use Rattle.table.specs.Table.{parts}
 use Rattle.chain.specs.Facts.{at, start, Before}
 use Rattle.sound.specs.Is.{All, later}
-use Rattle.sound.specs.Sound.{Contents, primariesOf, extendedIn, areaStart, areaEnd, end, bound, Flagged, EntryChs, LogicalChs, Used, Extended, Apart, EndsBy, FirstAt, OfLink, Sound}
+use Rattle.sound.specs.Sound.{Contents, primariesOf, extendedIn, areaStart, areaEnd, end, bound, Flagged, EntryChs, LogicalChs, Used, Extended, EndsBy, FirstAt, OfLink, Sound}
 
 -- the rules of a logical partition by itself
 pub record Own (l : LogicalPartition) : Type 0 where

@@ -1,5 +1,5 @@
 -- How tests of facts are built. Assumes nothing.
-use mathlib.Core.Path.{_≡_, refl, sym}
+use mathlib.Core.Path.{_≡_, refl}
 use mathlib.Core.Logic.{_⊎_, inl, inr}
 use mathlib.Core.Option.{Option}
 use mathlib.Core.Bool.{Bool, true, false, not, _&&_, _||_}

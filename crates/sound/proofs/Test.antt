@@ -1,16 +1,14 @@
 -- The test of each rule says just that rule, and the whole test says sound. Assumes nothing.
-use mathlib.Core.Path.{_≡_, refl, sym}
-use mathlib.Core.Logic.{_⊎_, inl, inr}
+use mathlib.Core.Path.{_≡_, refl}
+use mathlib.Core.Logic.{inl, inr}
 use mathlib.Core.Option.{Option, none, some}
-use mathlib.Core.Bool.{Bool, true, false, not, _&&_, _||_}
+use mathlib.Core.Bool.{Bool, true, false}
 use mathlib.Core.List.{List, [], _∷_}
-use Prim.Native.Nat.{ℕ, _+_, _≤_, _<_}
-use native.Mathlib.Omega.{arith}
-use lib.Dec.{ltb, leb, eqb}
+use Prim.Native.Nat.{ℕ, _+_, _≤_}
+use lib.Dec.{leb, eqb}
 use lib.ListN.{getD}
 use Rattle.base.specs.Pick.{pick}
 use Rattle.base.specs.Checks.{Check, checked, AllHold}
-use Rattle.base.specs.Row.{Row}
 use Rattle.chs.specs.declared.CHS.{CHS}
 use Rattle.entry.specs.declared.MBRPartitionEntry.{MBRPartitionEntry}
 use Rattle.entry.specs.Entry.{flagOk, used, extended, endOf}
@@ -21,8 +19,8 @@ use Rattle.table.specs.declared.MaybeChs.the-variants.{Absent as NoChs, Present
 use Rattle.table.specs.declared.LogicalPartition.{LogicalPartition}
 use Rattle.table.specs.Table.{parts}
 use Rattle.chain.specs.Facts.{at, start, Before}
-use Rattle.sound.specs.Is.{Is, All, allb, Pairs, pairsb, rowb, later}
-use Rattle.sound.specs.Sound.{Contents, primariesOf, extendedIn, areaStart, areaEnd, end, bound, Signed, signedb, Flagged, Flags, flagsb, Within, withinb, IfThere, ifThereb, EntryChs, entryChsb, LogicalChs, logicalChsb, Addresses, addressesb, Used, Starts, startsb, Sizes, sizesb, OnDisk, onDiskb, Apart, apartb, AllApart, allApartb, Extended, NotBoth, notBothb, OneExtended, oneExtendedb, Owned, ownedb, LogicalsUsed, logicalsUsedb, LogicalsPlain, logicalsPlainb, LogicalsSized, logicalsSizedb, AfterEbr, afterEbrb, EndsBy, Ends, endsb, FirstAt, firstAtb, Ascend, beforeb, ascendb, OfLink, ofLinkb, LinksSized, linksSizedb, LinksEnd, linksEndb, LinksCover, linksCoverb, Sound, soundRules, soundb}
+use Rattle.sound.specs.Is.{Is, later}
+use Rattle.sound.specs.Sound.{Contents, primariesOf, extendedIn, areaStart, areaEnd, end, bound, Signed, signedb, Flagged, Flags, flagsb, Within, withinb, IfThere, ifThereb, EntryChs, entryChsb, LogicalChs, logicalChsb, Addresses, addressesb, Starts, startsb, Sizes, sizesb, OnDisk, onDiskb, Apart, apartb, AllApart, allApartb, NotBoth, notBothb, OneExtended, oneExtendedb, Owned, ownedb, LogicalsUsed, logicalsUsedb, LogicalsPlain, logicalsPlainb, LogicalsSized, logicalsSizedb, AfterEbr, afterEbrb, Ends, endsb, FirstAt, firstAtb, Ascend, beforeb, ascendb, OfLink, ofLinkb, LinksSized, linksSizedb, LinksEnd, linksEndb, LinksCover, linksCoverb, Sound, soundRules, soundb}
 use Rattle.sound.proofs.Is.{is-lt, is-le, is-eq, is-true, is-unit, is-never, is-not, is-and, is-or, is-if, is-as, is-all, is-pairs, is-row}
 
 pub is-flag : (e : MBRPartitionEntry) → Is (Flagged e) (flagOk e)

@@ -1,14 +1,14 @@
 -- Sound tables: document 01's rules one by one in its order, each as a fact and as a test. Assumes nothing.
 use Prim.Native.Nat.{ℕ, _+_, _≤_, _<_}
 use mathlib.Core.Path.{_≡_}
-use mathlib.Core.Logic.{_≢_, _⊎_}
+use mathlib.Core.Logic.{_⊎_}
 use mathlib.Core.Bool.{Bool, true, false, not, _&&_, _||_}
 use mathlib.Core.Option.{Option, none, some, Option·getD}
 use mathlib.Core.List.{List, [], _∷_}
 use lib.Dec.{ltb, leb, eqb}
 use lib.ListN.{getD}
 use Rattle.base.specs.Bytes.{standsAt}
-use Rattle.base.specs.Said.{Said, gives, refuses}
+use Rattle.base.specs.Said.{Said}
 use Rattle.base.specs.Checks.{Check, _!_, checked, answer}
 use Rattle.base.specs.Row.{Row}
 use Rattle.chs.specs.declared.CHS.{CHS}

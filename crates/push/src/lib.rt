@@ -416,7 +416,7 @@ fn placed_logical(q: Request, p: Place, n: usize) -> Updated
 }
 
 // The new partition of a request behind n others in an extended entry, or the first refusal.
-pub fn new_logical(q: Request, e: MBRPartitionEntry, n: usize) -> Updated
+fn new_logical(q: Request, e: MBRPartitionEntry, n: usize) -> Updated
     ensures { λ r. ⌜ refusal (r .answer) ≡ first-fail (pushChecks q (some e) n) ⌝ }
     ensures { λ r. ⌜ (refusal (r .answer) ≡ none → (r .logical ≡ newLogical (laterThan n) q) × (n < 24)) ⌝ }
 {

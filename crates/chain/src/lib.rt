@@ -65,7 +65,7 @@ pub enum Lifted {
 }
 
 // Where a link leads on the disk. Nowhere else is a link's place turned into one of the disk.
-fn place(base: DiskLba, rel: LinkLba) -> u64
+pub fn place(base: DiskLba, rel: LinkLba) -> u64
     ensures { λ r. ⌜ r ≡ base .0 + rel .0 ⌝ }
 {
     base.0 as u64 + rel.0 as u64

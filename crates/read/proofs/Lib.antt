@@ -1,3 +1,4 @@
 pub mod Facts
 pub mod Looked
 pub mod Says
+pub mod Wants

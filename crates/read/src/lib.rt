@@ -3,13 +3,17 @@ use align::Aligned;
 use align::Starts;
 use base::Answer;
 use chain::Logicals;
+use ebr::Entries;
+use ebr::Opened;
 use extract::Extract;
 use extract::Header;
 use extract::Outcome;
 use extract::Refusal;
 use mbr::Found;
 use mbr::MBRHeader;
+use table::DiskLba;
 use table::LOGICALS;
+use table::LinkLba;
 use table::LogicalPartition;
 use table::MBR;
 ghost use mathlib.Core.Path.{_≡_};
@@ -26,6 +30,8 @@ ghost use Rattle.chain.specs.Chain.{view, logicalsOf};
 ghost use Rattle.chain.specs.Thin.{told};
 ghost use Rattle.align.specs.Align.{usedStarts, alignment, startsIn};
 ghost use Rattle.read.specs.Read.{headerOn, withChain, read, readSays, headerSays, noTable, tableFor};
+ghost use Rattle.read.specs.Facts.{looked, chainLooks};
+ghost use Rattle.read.specs.Wanted.{firstAbsent, wantedSays, wantedSaid, onwardFrom, onwardSaid, looksFrom};
 ghost use Rattle.read.specs.Answers.{headerTold, tableTold, finished, startsRead};
 
 // A header, or a refusal with an empty one.
@@ -38,6 +44,19 @@ pub struct HeaderRead {
 pub struct ReadAnswer {
     pub answer: Outcome,
     pub table: MBR,
+}
+
+// A sector that reading would look at, nothing, or a refusal.
+pub enum Want {
+    Nothing,
+    Sector(u32),
+    Refused(Refusal),
+}
+
+// Where an EBR leads: to no other, or to one at a link's place.
+pub enum Onward {
+    Stop,
+    To(LinkLba),
 }
 
 fn no_header(k: u8) -> HeaderRead
@@ -226,5 +245,93 @@ pub fn read_from(x: &[u8]) -> ReadAnswer
     match extract::check(x) {
         Header::Refused(r) => no_table(r.number),
         Header::Good(e) => read_good(x, e),
+    }
+}
+
+// Where reading goes on behind an EBR at sector a.
+fn goes_on(e: Entries, a: u64, rel: LinkLba, left: usize) -> Onward
+    requires { ⌜ a < 8589934592 ⌝ }
+    ensures { λ r. ⌜ onwardSaid r ≡ onwardFrom left a (rel .0) e ⌝ }
+{
+    if left == 0 {
+        return Onward::Stop;
+    }
+    if 4294967296 <= e.partition_1.starting_lba as u64 + a {
+        return Onward::Stop;
+    }
+    let start = e.partition_2.starting_lba;
+    if start == 0 {
+        return Onward::Stop;
+    }
+    if start <= rel.0 {
+        return Onward::Stop;
+    }
+    Onward::To(LinkLba(start))
+}
+
+// The first sector without a record from the EBR at a link's place on.
+fn wanted_from(x: &[u8], n: usize, d: u32, base: DiskLba, rel: LinkLba, left: usize) -> Want
+    requires { ⌜ (n ≡ count (now x)) × Good (now x) ⌝ }
+    requires { ⌜ d ≡ diskSectors (now x) ⌝ }
+    ensures { λ r. ⌜ wantedSaid r ≡ gives (firstAbsent (now (x .entry)) (looksFrom (diskOf (now (x .entry))) (base .0) left (rel .0))) ⌝ }
+{
+    let a = chain::place(base, rel);
+    if d as u64 <= a {
+        return Want::Nothing;
+    }
+    let r = extract::record_of(x, n, a as u32);
+    if r.len() == 0 {
+        return Want::Sector(a as u32);
+    }
+    match ebr::open(r) {
+        Opened::Shut(_) => Want::Nothing,
+        Opened::Ebr(e) => match goes_on(e, a, rel, left) {
+            Onward::Stop => Want::Nothing,
+            Onward::To(next) => wanted_from(x, n, d, base, next, left - 1),
+        },
+    }
+}
+
+// The first sector without a record that reading a checked extract looks at.
+fn wanted_of(x: &[u8], n: usize, size: u32) -> Want
+    requires { ⌜ (n ≡ count (now x)) × Good (now x) ⌝ }
+    requires { ⌜ size ≡ diskSectors (now x) ⌝ }
+    ensures { λ r. ⌜ wantedSaid r ≡ gives (firstAbsent (now (x .entry)) (looked (diskOf (now (x .entry))))) ⌝ }
+{
+    if size == 0 {
+        return Want::Nothing;
+    }
+    let r = extract::record_of(x, n, 0);
+    if r.len() == 0 {
+        return Want::Sector(0);
+    }
+    let h = header_of(x, n, size);
+    let answer = h.answer;
+    match answer {
+        Outcome::Refused(_) => Want::Nothing,
+        Outcome::Done => {
+            let header = h.header;
+            match header.get_extended_partition() {
+                Found::Nothing => Want::Nothing,
+                Found::Entry(e) => wanted_from(
+                    x,
+                    n,
+                    size,
+                    DiskLba(e.starting_lba),
+                    LinkLba(0),
+                    LOGICALS,
+                ),
+            }
+        }
+    }
+}
+
+// The first sector that reading looks at and the extract has no record for: none, or 1.
+pub fn wanted(x: &[u8]) -> Want
+    ensures { λ r. ⌜ wantedSaid r ≡ wantedSays (now (x .entry)) ⌝ }
+{
+    match extract::check(x) {
+        Header::Refused(r) => Want::Refused(r),
+        Header::Good(e) => wanted_of(x, e.count, e.disk_size),
     }
 }

@@ -1,3 +1,5 @@
 pub mod Is
 pub mod Test
 pub mod Good
+pub mod Walk
+pub mod Said

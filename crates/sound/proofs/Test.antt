@@ -38,18 +38,18 @@ is-there : (m : MaybeChs) → Is (IfThere m) (ifThereb m)
 is-there NoChs = is-unit
 is-there (SomeChs c) = is-within c
 
-is-entry-chs : (e : MBRPartitionEntry) → Is (EntryChs e) (entryChsb e)
+pub is-entry-chs : (e : MBRPartitionEntry) → Is (EntryChs e) (entryChsb e)
 is-entry-chs e = is-and _ _ _ _ (is-within (e .«first_chs»)) (is-within (e .«last_chs»))
 
-is-logical-chs : (l : LogicalPartition) → Is (LogicalChs l) (logicalChsb l)
+pub is-logical-chs : (l : LogicalPartition) → Is (LogicalChs l) (logicalChsb l)
 is-logical-chs l = is-and _ _ _ _ (is-entry-chs (l .partition)) (is-and _ _ _ _ (is-within (l .«ebr_first_chs»)) (is-there (l .«ebr_last_chs»)))
 
-is-apart : (e f : MBRPartitionEntry) → Is (Apart e f) (apartb e f)
+pub is-apart : (e f : MBRPartitionEntry) → Is (Apart e f) (apartb e f)
 is-apart e f =
     is-if _ _ _ _ (is-true (used (e .sys)))
     (is-if _ _ _ _ (is-true (used (f .sys))) (is-or _ _ _ _ (is-le (endOf e) (f .«starting_lba»)) (is-le (endOf f) (e .«starting_lba»))))
 
-is-not-both : (e f : MBRPartitionEntry) → Is (NotBoth e f) (notBothb e f)
+pub is-not-both : (e f : MBRPartitionEntry) → Is (NotBoth e f) (notBothb e f)
 is-not-both e f = is-if _ _ _ _ (is-true (extended (e .sys))) (is-not _ _ (is-true (extended (f .sys))))
 
 is-owned : (o : Option MBRPartitionEntry) (ls : List LogicalPartition) → Is (Owned o ls) (ownedb o ls)
@@ -67,7 +67,7 @@ is-before : (l : LogicalPartition) (n : Option LogicalPartition) → Is (Before 
 is-before l none = is-unit
 is-before l (some m) = is-lt (at l) (at m)
 
-is-link : (P : ℕ → Type 0) (p : ℕ → Bool) (Q : Type 0) (b : Bool) → ((n : ℕ) → Is (P n) (p n)) → Is Q b → (m : MaybeSectors) → Is (OfLink P Q m) (ofLinkb p b m)
+pub is-link : (P : ℕ → Type 0) (p : ℕ → Bool) (Q : Type 0) (b : Bool) → ((n : ℕ) → Is (P n) (p n)) → Is Q b → (m : MaybeSectors) → Is (OfLink P Q m) (ofLinkb p b m)
 is-link P p Q b k j Absent = j
 is-link P p Q b k j (Present n) = k n
 

@@ -1,2 +1,4 @@
 pub mod Is
 pub mod Sound
+pub mod Walk
+pub mod Said

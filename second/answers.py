@@ -10,10 +10,16 @@ CHS, type, last CHS, start, sectors. An MBR record's fields are its disk signatu
 and boot signature byte by byte and its four entries; its code is the start of X. An EBR's
 fields are its partition's entry and its link's; its code is the start of X.
 
+A command on a table reads it from X; the first six numbers of its line are the alignment,
+the geometry (cylinders, heads, sectors), the count and D that the table is handed in with.
+
 A refusal prints `refused N`. A command that is lent O also prints O's length and checksum,
-after a refusal too, since then every byte must have stayed.
+after a refusal too, since then every byte must have stayed; before them the answer's length,
+where it has one.
 """
 import sys
+from dataclasses import replace
+from functools import lru_cache
 
 import model as m
 from model import CHS, Entry, Refusal
@@ -85,8 +91,8 @@ def truth(b):
 
 def lent_out(s, f, *args):
     try:
-        f(*args)
-        said = "done"
+        length = f(*args)
+        said = "done" if length is None else str(length)
     except Refusal as r:
         said = f"refused {r.number}"
     return f"{said} {len(s.o)} {checksum(s.o)}"
@@ -208,12 +214,189 @@ def ebr_again(s):
     return lent_out(s, m.ebr_write, m.ebr_read(s.x), s.o)
 
 
+# ---------------------------------------------------------------- the extract
+
+
+def extract_check(s):
+    """Sector size, D and the number of records."""
+    disk = m.extract_disk(s.x)
+    return f"{disk.sector_size} {disk.disk_size} {len(disk.records)}"
+
+
+def extract_find(s, lba):
+    """The record's length and checksum, then the second answer."""
+    record = m.lookup(s.x, lba)
+    return f"{len(record)} {checksum(record)} {m.lookup_says(s.x, lba)}"
+
+
+def extract_place(s, sector_size, lba):
+    return str(m.byte_place(sector_size, lba))
+
+
+def extract_lay(s, lba, length):
+    """The last bytes of X, so many, are the record; the extract is what is before."""
+    end = max(0, len(s.x) - length)
+    return lent_out(s, lambda: m.lay_over(s.x[:end], lba, s.x[end:], s.o))
+
+
+# ---------------------------------------------------------------- reading
+
+
+def none_or(value, text=str):
+    return "none" if value is None else text(value)
+
+
+def logical_text(l):
+    return (f"{entry_text(l.partition)} {l.absolute_ebr_lba} {none_or(l.ebr_sectors)} {chs_text(l.ebr_first_chs)} "
+            f"{none_or(l.ebr_last_chs, chs_text)} {checksum(l.bootstrap_code)}")
+
+
+def table_text(t):
+    """Sector size, D, alignment, geometry and the count, then the header, then each logical partition."""
+    fields = (t.sector_size, t.disk_size, t.align, t.cylinders, t.heads, t.sectors, len(t.logicals))
+    return " ".join([*map(str, fields), header_text(t.header), *map(logical_text, t.logicals[:m.LOGICALS])])
+
+
+def read(s):
+    return table_text(m.read_table(s.x))
+
+
+def read_header(s):
+    return header_text(m.read_header_only(s.x))
+
+
+# ---------------------------------------------------------------- changes of a table
+
+
+@lru_cache(maxsize=1)
+def table_of(x):
+    return m.read_table(x)
+
+
+def handed_in(x, align, cylinders, heads, sectors, count, disk_size):
+    """The table that X reads as, with this alignment, geometry and D, and empty partitions up to the count."""
+    t = table_of(x)
+    logicals = (t.logicals + (m.NO_LOGICAL,) * count)[:count]
+    return replace(t, align=align, cylinders=cylinders, heads=heads, sectors=sectors, disk_size=disk_size,
+                   logicals=logicals)
+
+
+def get(s, *numbers):
+    return found_text(m.table_get(handed_in(s.x, *numbers[:6]), numbers[6]))
+
+
+def len_(s, *numbers):
+    return str(m.table_len(handed_in(s.x, *numbers)))
+
+
+def find(s, *numbers):
+    return none_or(m.find_at_sector(handed_in(s.x, *numbers[:6]), numbers[6]))
+
+
+def remove(s, *numbers):
+    t = handed_in(s.x, *numbers[:6])
+    try:
+        t, removed = m.remove(t, numbers[6])
+    except Refusal as r:
+        return f"refused {r.number} {table_text(t)}"
+    return f"done {logical_text(removed)} {table_text(t)}"
+
+
+def changed(f, t, *args):
+    """What the call says, and the table, refused or not."""
+    try:
+        return f"done {table_text(f(t, *args))}"
+    except Refusal as r:
+        return f"refused {r.number} {table_text(t)}"
+
+
+def remove_at(s, *numbers):
+    return changed(m.remove_at_sector, handed_in(s.x, *numbers[:6]), numbers[6])
+
+
+def check_geometry(s, *numbers):
+    return truth(m.check_geometry(handed_in(s.x, *numbers)))
+
+
+def cylinder_size(s, *numbers):
+    return str(m.get_cylinder_size(handed_in(s.x, *numbers)))
+
+
+def update_chs(s, *numbers):
+    """The logical partition of a place from 0 on, with the table's geometry."""
+    t = handed_in(s.x, *numbers[:6])
+    l = t.logicals[numbers[6]]
+    try:
+        return f"done {logical_text(m.update_chs(l, t.cylinders, t.heads, t.sectors))}"
+    except Refusal as r:
+        return f"refused {r.number} {logical_text(l)}"
+
+
+def push(s, *numbers):
+    t, number = m.push(handed_in(s.x, *numbers[:6]), *numbers[6:])
+    return f"{number} {table_text(t)}"
+
+
+def push_all(s, *numbers):
+    """As push, with the table after a refusal too."""
+    t = handed_in(s.x, *numbers[:6])
+    try:
+        t, number = m.push(t, *numbers[6:])
+    except Refusal as r:
+        return f"refused {r.number} {table_text(t)}"
+    return f"{number} {table_text(t)}"
+
+
+def new_from(s, *disk):
+    return table_text(m.new_from(s.x, bytes(disk)))
+
+
+def update_from(s, *numbers):
+    """The last bytes of X, so many, are the second extract; the table is read from what is before."""
+    end = max(0, len(s.x) - numbers[6])
+    return changed(m.update_from, handed_in(s.x[:end], *numbers[:6]), s.x[end:])
+
+
+# ---------------------------------------------------------------- free runs and places
+
+
+def free(s, *numbers):
+    """How many runs there are, then start and length of each."""
+    runs = m.free_runs(handed_in(s.x, *numbers))
+    return " ".join(str(n) for n in [len(runs), *(n for run in runs for n in run)])
+
+
+def first_place(s, *numbers):
+    return none_or(m.find_first_place(handed_in(s.x, *numbers[:6]), numbers[6]))
+
+
+def last_place(s, *numbers):
+    return none_or(m.find_last_place(handed_in(s.x, *numbers[:6]), numbers[6]))
+
+
+def best_place(s, *numbers):
+    return none_or(m.find_optimal_place(handed_in(s.x, *numbers[:6]), numbers[6]))
+
+
+def most(s, *numbers):
+    return str(m.get_maximum_partition_size(handed_in(s.x, *numbers)))
+
+
+def most_for(s, *numbers):
+    return str(m.get_maximum_partition_size_for(handed_in(s.x, *numbers[:6]), numbers[6]))
+
+
 CHANGES = {f.__name__: f for f in (x, xp, o)}
 COMMANDS = {f.__name__: f for f in (
     chs_new, chs_empty, chs_exact, chs_aligned, chs_to_lba, chs_is_empty, chs_is_valid, chs_to_bytes, chs_of_bytes,
     entry_boot, entry_empty, entry_is,
     mbr_new, mbr_get, mbr_extended, mbr_copy, mbr_read, mbr_write, mbr_again,
-    ebr_read, ebr_write, ebr_again)}
+    ebr_read, ebr_write, ebr_again,
+    extract_check, extract_find, extract_place, extract_lay,
+    read, read_header,
+    get, find, remove, remove_at, check_geometry, cylinder_size, update_chs, push, push_all, new_from, update_from,
+    free, first_place, last_place, best_place, most, most_for)}
+COMMANDS["len"] = len_
 
 
 def answers(text):

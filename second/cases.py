@@ -52,6 +52,30 @@ def lend(record):
         at += len(piece) + 8
 
 
+class Near:
+    """X, changed where it differs from what was lent before."""
+
+    def __init__(self):
+        self.x = None
+
+    def lend(self, x):
+        x = bytes(x)
+        if self.x is None or len(self.x) != len(x):
+            lend(x)
+        else:
+            at = 0
+            while at < len(x):
+                if x[at] == self.x[at]:
+                    at += 1
+                    continue
+                end = at + 1
+                while end < len(x) and x[end:end + 8] != self.x[end:end + 8]:
+                    end += 1
+                case("xp", at, x[at:end])
+                at = end
+        self.x = x
+
+
 def part(sys, start, sectors, boot=0):
     return Entry(boot, m.NO_CHS, sys, m.NO_CHS, start, sectors)
 
@@ -377,7 +401,220 @@ def ebr_cases():
                                     seeded_entry(rng, narrow=False)))
 
 
+# ---------------------------------------------------------------- the extract
+
+
+def words_extract(size, disk_size, lbas, kept, **given):
+    """The bytes of an extract, good or not: a word of the header that is given stands as it is."""
+    n = len(lbas)
+    head = {"size": size, "disk": disk_size, "n": n, "list": 24, "records": 24 + 4 * n, "total": 24 + 516 * n}
+    head.update(given)
+    return (b"".join(m.four(v) for v in head.values()) + b"".join(map(m.four, lbas)) + b"".join(kept))
+
+
+def marked(number):
+    """A record that is told from others by four bytes."""
+    record = bytearray(512)
+    at = number * 37 % 506
+    record[at:at + 2] = bytes([number % 251 + 1, number * 7 % 256])
+    record[0] = number % 256
+    record[511] = 255 - number % 256
+    return bytes(record)
+
+
+def rising(n, first=10, step=7):
+    return [first + step * i for i in range(n)]
+
+
+def numbered(n, disk_size=100000, size=512, lbas=None):
+    """A good extract of n marked records."""
+    lbas = rising(n) if lbas is None else lbas
+    return words_extract(size, disk_size, lbas, [marked(i + 1) for i in range(n)])
+
+
+# Ways to break one rule of an extract of three records (length 1,572, LBAs 10, 17 and 24, D 100,000): a place and the new
+# word. No place: the length that is lent.
+BREAKS = (
+    ("size 0", 0, 0), ("size 256", 0, 256), ("size 768", 0, 768), ("size 8192", 0, 8192), ("size big", 0, BIG),
+    ("D at the last LBA", 4, 24), ("D 0", 4, 0), ("D in the middle", 4, 17),
+    ("n one more", 8, 4), ("n one fewer", 8, 2), ("n 65", 8, 65), ("n big", 8, BIG), ("n wraps", 8, 3 + 2 ** 30),
+    ("list", 12, 28), ("list big", 12, BIG), ("list 0", 12, 0),
+    ("records", 16, 40), ("records low", 16, 35), ("records big", 16, BIG),
+    ("total one more", 20, 1573), ("total one fewer", 20, 1571), ("total 0", 20, 0),
+    ("first two equal", 28, 10), ("first two turned", 28, 9), ("last two equal", 32, 17), ("last two turned", 32, 0),
+    ("first high", 24, BIG), ("last at D", 32, 100000), ("last big", 32, BIG),
+    ("lent one fewer", None, 1571), ("lent one more", None, 1573), ("lent 36", None, 36), ("lent 24", None, 24),
+    ("lent 23", None, 23), ("lent 0", None, 0))
+
+
+def broken(x, *breaks):
+    x = bytearray(x)
+    length = len(x)
+    for _, at, word in breaks:
+        if at is None:
+            length = word
+        else:
+            x[at:at + 4] = m.four(word)
+    return bytes((x + bytes(4))[:length])
+
+
+def extract_rule_cases():
+    near = Near()
+
+    def checked(x):
+        near.lend(x)
+        case("extract_check")
+
+    note("extract: D 0 and the greatest, n 0, 1, 63, 64 and 65")
+    for disk_size in (0, 1, 2, 4096, BIG):
+        checked(words_extract(512, disk_size, [], []))
+        for lba in (0, 1, 4095, 4096, BIG - 1, BIG):
+            checked(words_extract(512, disk_size, [lba], [marked(lba)]))
+    for n in (2, 3, 63, 64, 65):
+        checked(numbered(n))
+        case("extract_find", 10)
+        checked(numbered(n, disk_size=10 + 7 * (n - 1) + 1))
+        checked(numbered(n, disk_size=10 + 7 * (n - 1)))
+    checked(numbered(64, disk_size=BIG, lbas=[BIG - 64 + i for i in range(64)]))
+    checked(numbered(64, disk_size=BIG, lbas=[BIG - 63 + i for i in range(64)]))
+    checked(numbered(64, disk_size=64, lbas=list(range(64))))
+    for at in (1, 31, 32, 62, 63):
+        for less in (7, 8):
+            lbas = rising(64)
+            lbas[at] -= less
+            checked(numbered(64, lbas=lbas))
+
+    note("extract: the lent length alone")
+    for length in (0, 1, 4, 23, 24, 25):
+        checked(bytes(length))
+        case("extract_find", 0)
+
+    note("extract: the sector size")
+    for size in (0, 1, 2, 256, 511, 512, 513, 768, 1023, 1024, 1536, 2048, 2560, 3072, 3584, 4095, 4096, 4097, 6144, 8192,
+                 65536, 512 + 65536, 2 ** 31, BIG):
+        checked(words_extract(size, 9, [], []))
+
+    note("extract: counts that wrap")
+    for n in (2 ** 30, 2 ** 31, 3 * 2 ** 30, BIG):
+        checked(words_extract(512, 9, [], [], n=n, records=(24 + 4 * n) % 2 ** 32, total=(24 + 516 * n) % 2 ** 32))
+
+    good = numbered(3)
+    assert len(good) == 1572
+    note("extract: every rule broken alone")
+    checked(good)
+    for lba in (10, 17, 24, 11, 100000):
+        case("extract_find", lba)
+    for one in BREAKS:
+        checked(broken(good, one))
+        for lba in (10, 100000):
+            case("extract_find", lba)
+    note("extract: every two rules broken")
+    pairs = [(one, other) for i, one in enumerate(BREAKS) for other in BREAKS[i + 1:] if one[1] != other[1]]
+    for one, other in sorted(pairs, key=lambda pair: len(broken(good, *pair))):
+        checked(broken(good, one, other))
+
+
+def extract_find_cases():
+    note("extract: a record by its LBA")
+    for n in (0, 1, 2, 3, 5, 63, 64):
+        lend(numbered(n, disk_size=1000))
+        lbas = rising(n)
+        for lba in sorted({0, 9, 10, 11, 12, 17, 18, 31, 32, 227, 228, 444, 445, 451, 452, 999, 1000, 1001, BIG}
+                          | set(lbas)):
+            case("extract_find", lba)
+    note("extract: LBAs at the ends")
+    lend(words_extract(512, BIG, [0, 1, 65536, BIG - 2, BIG - 1], [marked(i) for i in range(5)]))
+    for lba in (0, 1, 2, 256, 65535, 65536, 65537, BIG - 3, BIG - 2, BIG - 1, BIG):
+        case("extract_find", lba)
+    lend(words_extract(4096, 0, [], []))
+    for lba in (0, 1, BIG):
+        case("extract_find", lba)
+    note("extract: seeded records of full bytes")
+    rng = Seeded(404)
+    lend(words_extract(1024, 77, [3, 4, 76], [rng.bytes(512) for _ in range(3)]))
+    for lba in (2, 3, 4, 5, 75, 76, 77):
+        case("extract_find", lba)
+
+    note("extract: the byte place of an LBA")
+    for size in (512, 1024, 2048, 4096):
+        for lba in (0, 1, 7, 1048576, 8388607, 8388608, BIG - 1, BIG):
+            case("extract_place", size, lba)
+    for size in (0, 1, 256, 511, 513, 768, 1536, 3072, 4095, 4097, 8192, 2 ** 31, BIG):
+        case("extract_place", size, 1)
+
+
+def extract_lay_cases():
+    record = marked(200)
+    note("laying a record: first, middle, last, replaced and inserted, outputs short, full and longer")
+    for n in (0, 1, 2, 3, 63, 64):
+        lbas = rising(n)
+        lend(numbered(n, disk_size=1000, size=512 << n % 4) + record)
+        middle = 10 + 7 * (n // 2)
+        for lba in sorted({0, 9, 10, 11, middle, middle + 1, 10 + 7 * (n - 1), 10 + 7 * n, 998, 999, 1000, BIG}):
+            if lba < 0:
+                continue
+            need = 24 + 516 * min(64, len(set(lbas) | {lba}))
+            for length in (need, need - 1, need + 1):
+                case("o", length, 10 + n)
+                case("extract_lay", lba, 512)
+    for length in (0, 1, 24, 539, 540, 541, 1056, 40000, 65536):
+        lend(numbered(0, disk_size=1000) + record)
+        case("o", length, 77)
+        case("extract_lay", 5, 512)
+        lend(numbered(1, disk_size=1000) + record)
+        case("o", length, 78)
+        case("extract_lay", 10, 512)
+
+    note("laying a record: LBAs at the ends")
+    lend(words_extract(512, BIG, [0, 65536, BIG - 1], [marked(i) for i in range(3)]) + record)
+    for lba in (0, 1, 65535, 65536, 65537, BIG - 2, BIG - 1, BIG):
+        case("o", 2100, 1)
+        case("extract_lay", lba, 512)
+    lend(words_extract(512, 0, [], []) + record)
+    for lba in (0, 1, BIG):
+        case("o", 540, 2)
+        case("extract_lay", lba, 512)
+    lend(words_extract(512, 1, [], []) + record)
+    for lba in (0, 1):
+        case("extract_lay", lba, 512)
+
+    note("laying a record: the record's length, and the order 1, 2, 22, 19")
+    for n in (0, 1, 64):
+        for long in (0, 1, 511, 513, 1024):
+            lend(numbered(n, disk_size=1000) + bytes([9]) * long)
+            for lba in (10, 5, 1000):
+                for length in (0, 40000):
+                    case("o", length, 4)
+                    case("extract_lay", lba, long)
+    for change in ((), BREAKS[0], BREAKS[12], BREAKS[27]):
+        changes = (change,) if change else ()
+        lend(broken(numbered(3), *changes) + record)
+        for lba in (10, 5, 100000):
+            for length in (0, 2087, 2088):
+                case("o", length, 4)
+                case("extract_lay", lba, 512)
+    for one in BREAKS:
+        lend(broken(numbered(3), one) + record)
+        case("o", 2100, 5)
+        case("extract_lay", 17, 512)
+    lend(numbered(65) + record)
+    case("o", 34100, 6)
+    case("extract_lay", 10, 512)
+    case("extract_lay", 11, 512)
+
+    note("laying a record: the record is all of X, and seeded bytes")
+    lend(record)
+    case("o", 600, 6)
+    case("extract_lay", 0, 512)
+    rng = Seeded(505)
+    for lba in (2, 3, 4, 50, 76):
+        lend(words_extract(2048, 77, [3, 50], [rng.bytes(512) for _ in range(2)]) + rng.bytes(512))
+        case("o", 1600, lba)
+        case("extract_lay", lba, 512)
+
+
 if __name__ == "__main__":
-    for section in (chs_cases, entry_cases, mbr_cases, ebr_cases):
+    for section in (chs_cases, entry_cases, mbr_cases, ebr_cases, extract_rule_cases, extract_find_cases,
+                    extract_lay_cases):
         section()
     print("\n".join(lines))

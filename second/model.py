@@ -13,6 +13,7 @@ RECORDS = 64  # records of an extract
 RUNS = 30  # runs of a lent list
 STORES = 1032  # bytes of the lent output of a careful change
 
+SECTOR_SIZES = (512, 1024, 2048, 4096)
 SIGNATURE = b"\x55\xaa"
 BOOT_ACTIVE = 0x80
 BOOT_INACTIVE = 0x00
@@ -256,7 +257,7 @@ def extract_disk(x: bytes) -> Disk:
     if len(x) < 24:
         raise Refusal(1)
     size, disk_size, n, list_at, records_at, total = (little(x[at:at + 4]) for at in range(0, 24, 4))
-    if size not in (512, 1024, 2048, 4096) or n > RECORDS:
+    if size not in SECTOR_SIZES or n > RECORDS:
         raise Refusal(1)
     if list_at != 24 or records_at != 24 + 4 * n:
         raise Refusal(1)
@@ -293,6 +294,13 @@ def lookup(x: bytes, lba: int) -> bytes:
         return extract_disk(x).records.get(lba, b"")
     except Refusal:
         return b""
+
+
+def byte_place(sector_size: int, lba: int) -> int:
+    """Where an LBA starts on the disk, in bytes."""
+    if sector_size not in SECTOR_SIZES:
+        raise Refusal(1)
+    return sector_size * lba
 
 
 def lay_records(disk: Disk, records: List[Tuple[int, bytes]], out: bytearray) -> int:

@@ -34,6 +34,24 @@ pub fn part_mut(s: &mut [u8], n: usize) -> &mut [u8] {
     s
 }
 
+// All but the last `n` bytes; none where there are fewer.
+pub fn before(s: &[u8], n: usize) -> &[u8] {
+    if n <= s.len() {
+        let end = s.len() - n;
+        return &s[0..end];
+    }
+    &s[0..0]
+}
+
+// The last `n` bytes, or all where there are fewer.
+pub fn last(s: &[u8], n: usize) -> &[u8] {
+    if n <= s.len() {
+        let start = s.len() - n;
+        return &s[start..];
+    }
+    s
+}
+
 // The byte at an index, or 0 past the end.
 pub fn byte(s: &[u8], i: usize) -> u8 {
     if i < s.len() {

@@ -2,6 +2,7 @@
 mod on_chs;
 mod on_ebr;
 mod on_entry;
+mod on_extract;
 mod on_mbr;
 
 use cases::lent;
@@ -52,6 +53,9 @@ fn answer(l: &[u8], x: &[u8], o: &mut [u8]) {
         return;
     }
     if on_ebr::run(l, x, o) {
+        return;
+    }
+    if on_extract::run(l, x, o) {
         return;
     }
     say::text(b" unknown");

@@ -6,12 +6,6 @@ use chs::Lba;
 use chs::Placed;
 ghost use Prim.Native.Nat.{_<_};
 
-pub fn show(c: CHS) {
-    say::n16(c.cylinder);
-    say::n8(c.head);
-    say::n8(c.sector);
-}
-
 // The address in three words of the line, after `k` spaces.
 pub fn given(l: &[u8], k: usize) -> CHS
     requires { ⌜ k < 200 ⌝ }
@@ -21,7 +15,7 @@ pub fn given(l: &[u8], k: usize) -> CHS
 
 fn placed(p: Placed) {
     match p {
-        Placed::At(c) => show(c),
+        Placed::At(c) => shown::chs(c),
         Placed::Refused(n) => say::refused(n),
     }
 }
@@ -64,15 +58,15 @@ pub fn run(l: &[u8]) -> bool {
     );
     let c = given(l, 1);
     match k {
-        0 => show(c),
-        1 => show(CHS::empty()),
+        0 => shown::chs(c),
+        1 => shown::chs(CHS::empty()),
         2 => placed(of_lba(l, true)),
         3 => placed(of_lba(l, false)),
         4 => to_lba(l, c),
         5 => say::truth(c.is_empty()),
         6 => say::truth(c.is_valid(line::n16(l, 4), line::n8(l, 5), line::n8(l, 6))),
         7 => to_bytes(c),
-        8 => show(of_bytes(l)),
+        8 => shown::chs(of_bytes(l)),
         _ => {
             return false;
         }

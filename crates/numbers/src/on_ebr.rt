@@ -35,9 +35,9 @@ fn show(e: EBRHeader) {
     let code = kept.bootstrap_code;
     say::n64(lent::checksum(&code));
     let one = e.partition_1;
-    on_entry::show(one);
+    shown::entry(one);
     let two = e.partition_2;
-    on_entry::show(two);
+    shown::entry(two);
 }
 
 fn read(x: &[u8]) {

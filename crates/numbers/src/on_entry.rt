@@ -5,17 +5,6 @@ use cases::say;
 use entry::MBRPartitionEntry;
 ghost use Prim.Native.Nat.{_<_};
 
-pub fn show(e: MBRPartitionEntry) {
-    say::n8(e.boot);
-    let first = e.first_chs;
-    on_chs::show(first);
-    say::n8(e.sys);
-    let last = e.last_chs;
-    on_chs::show(last);
-    say::n32(e.starting_lba);
-    say::n32(e.sectors);
-}
-
 // The entry in ten words of the line, after `k` spaces.
 pub fn given(l: &[u8], k: usize) -> MBRPartitionEntry
     requires { ⌜ k < 100 ⌝ }
@@ -49,7 +38,7 @@ pub fn run(l: &[u8]) -> bool {
     let k = line::which(l, b"entry_boot entry_empty entry_is");
     match k {
         0 => boot(),
-        1 => show(MBRPartitionEntry::empty()),
+        1 => shown::entry(MBRPartitionEntry::empty()),
         2 => is(given(l, 1)),
         _ => {
             return false;

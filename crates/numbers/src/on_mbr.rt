@@ -44,38 +44,10 @@ fn given(l: &[u8], x: &[u8]) -> MBRHeader {
     }
 }
 
-fn show_marks(disk: [u8; 4], mark: [u8; 2], sign: [u8; 2]) {
-    say::hex(disk[0]);
-    say::hex(disk[1]);
-    say::hex(disk[2]);
-    say::hex(disk[3]);
-    say::hex(mark[0]);
-    say::hex(mark[1]);
-    say::hex(sign[0]);
-    say::hex(sign[1]);
-}
-
-fn show(h: MBRHeader) {
-    let code = h.bootstrap_code;
-    say::n64(lent::checksum(&code));
-    let disk = h.disk_signature;
-    let mark = h.copy_protected;
-    let sign = h.boot_signature;
-    show_marks(disk, mark, sign);
-    let one = h.partition_1;
-    on_entry::show(one);
-    let two = h.partition_2;
-    on_entry::show(two);
-    let three = h.partition_3;
-    on_entry::show(three);
-    let four = h.partition_4;
-    on_entry::show(four);
-}
-
 fn show_found(e: Found) {
     match e {
         Found::Nothing => say::text(b" none"),
-        Found::Entry(e) => on_entry::show(e),
+        Found::Entry(e) => shown::entry(e),
     }
 }
 
@@ -93,7 +65,7 @@ fn read(x: &[u8]) {
     match answer {
         Answer::Done => {
             let h = r.header;
-            show(h);
+            shown::header(h);
         }
         Answer::Refused(n) => say::refused(n),
     }
@@ -134,7 +106,7 @@ pub fn run(l: &[u8], x: &[u8], o: &mut [u8]) -> bool {
         b"mbr_new mbr_get mbr_extended mbr_copy mbr_read mbr_write mbr_again",
     );
     match k {
-        0 => show(new(l)),
+        0 => shown::header(new(l)),
         1 => show_found(given(l, x).get(line::size(l, 49))),
         2 => show_found(given(l, x).get_extended_partition()),
         3 => copy(given(l, x)),

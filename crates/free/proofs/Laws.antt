@@ -8,6 +8,7 @@ use Prim.Native.Nat.{ℕ, zero, suc, _+_, _-_, _*_, _/_, _%_, _^_, _≤_, _<_}
 use native.Mathlib.Numerals.{add-one}
 use native.Mathlib.Nat.{div-add-mod', mod-lt, add-mul, one-mul}
 use native.Mathlib.Omega.{arith}
+use native.Mathlib.Decide.{decLt}
 use lib.Dec.{ltb, leb, eqb}
 use lib.ListN.{length, take, drop, getD, set, replicate, length-append, length-set, length-drop, drop-of-length-le}
 use lib.Seq.{take-suc-set, drop-cons, take-at, set-at, length-take-le, getD-take}
@@ -26,7 +27,7 @@ use Rattle.mbr.specs.Mbr.{primaries, extendedOf}
 use Rattle.table.specs.declared.LogicalPartition.{LogicalPartition}
 use Rattle.table.specs.declared.MBR.{MBR}
 use Rattle.table.specs.Table.{logicals, extendedIn, noLogical}
-use Rattle.sort.specs.Sort.{sort}
+use Rattle.sort.specs.Sort.{sort, insert}
 use Rattle.sort.proofs.Laws.{sort-length}
 use Rattle.free.specs.declared.FreeAnswer.{FreeAnswer}
 use Rattle.free.specs.declared.Points.{Points}
@@ -35,7 +36,7 @@ use Rattle.free.specs.declared.Gap.the-variants.{Nothing, Free, Refused}
 use Rattle.free.proofs.Gap.{the-type}
 use denote.Enum.Declared.{tagOf}
 use types.Run.{OneOf}
-use Rattle.free.specs.Free.{run, u32, every, zone, primaryZones, logicalZones, ends, whole, positions, pairs, apart, kept, up, rounded, inRange, found, area, joined, inner, outer, free, listed, runsIn, view, more, closed, gapSaid, between, within, begin, freeIn, Told}
+use Rattle.free.specs.Free.{run, u32, every, zone, primaryZones, logicalZones, ends, whole, positions, pairs, apart, kept, up, rounded, inRange, found, area, joined, inner, outer, free, listed, runsIn, view, more, closed, gapSaid, between, within, begin, freeIn, freeSaid, Below, Ended, Usable, Told}
 
 -- positions collected, or out of range
 abbrev pub held : Bool → List ℕ → Said (List ℕ)
@@ -422,3 +423,106 @@ told-one r s v t u =
     let a : r .answer ≡ s .answer = refusal-injective (r .answer) (s .answer) (t .0 ∙ sym (u .0)) in
     let b : r .runs ≡ s .runs = t .1 ∙ sym (u .1) in
     ap (λ (x : Answer). record { answer = x; runs = r .runs }) a ∙ ap (λ (x : Runs). record { answer = s .answer; runs = x }) b
+
+-- what an answer says, as the value that the contracts speak of
+pub said-told : (r : FreeAnswer) (v : Said (List Run)) → Told r v → freeSaid r ≡ v
+said-told r (gives rs) t = rw (t .0) (ap gives (ap runsIn (t .1) ∙ runs-listed rs))
+said-told r (refuses k) t = rw (t .0)
+
+-- numbers of 32 bits, and runs that end by the last of them
+below-insert : (v : ℕ) (xs : List ℕ) → v < u32 → Below xs → Below (insert v xs)
+unfolding insert
+below-insert v [] h b = (h, tt)
+below-insert v (x ∷ xs) h b = go (leb v x) (below-insert v xs h (b .1))
+  where
+    go : (c : Bool) → Below (insert v xs) → Below (pick c (v ∷ x ∷ xs) (x ∷ insert v xs))
+    go true ih = (h, b)
+    go false ih = (b .0, ih)
+
+below-sort : (xs : List ℕ) → Below xs → Below (sort xs)
+unfolding sort
+below-sort [] b = tt
+below-sort (x ∷ xs) b = below-insert x (sort xs) (b .0) (below-sort xs (b .1))
+
+below-append : (xs : List ℕ) (v : ℕ) → Below xs → v < u32 → Below (xs ++ (v ∷ []))
+below-append [] v b h = (h, tt)
+below-append (x ∷ xs) v b h = (b .0, below-append xs v (b .1) h)
+
+below-ends : (zs : List Run) → every whole zs ≡ true → Below (ends zs)
+unfolding every ends
+below-ends [] h = tt
+below-ends (z ∷ zs) h = go (ltb 0 (z .start + z .length)) (ltb (z .start + z .length) u32) refl (below-ends zs) h
+  where
+    go : (b c : Bool) → ltb (z .start + z .length) u32 ≡ c → (every whole zs ≡ true → Below (ends zs)) → (b && c) && every whole zs ≡ true → Below (ends (z ∷ zs))
+    go true true q ih e =
+        let k : z .start + z .length < u32 = ltb-true (z .start + z .length) u32 q in
+        (omega arith, (omega arith, ih e))
+    go true false q ih e = let w : _≡_ {A = ℕ} 0 1 = cc in absurd (omega arith)
+    go false c q ih e = let w : _≡_ {A = ℕ} 0 1 = cc in absurd (omega arith)
+
+ended-append : (rs ss : List Run) → Ended rs → Ended ss → Ended (rs ++ ss)
+ended-append [] ss e f = f
+ended-append (r ∷ rs) ss e f = (e .0, ended-append rs ss (e .1) f)
+
+-- every run that is found ends by the last number of 32 bits
+abbrev EndedIn : Said (List Run) → Type 0
+EndedIn v = Ended (valueOr [] v)
+
+ended-joined : (rs : List Run) (v : Said (List Run)) → Ended rs → EndedIn v → EndedIn (joined rs v)
+ended-joined rs (gives ss) e f = ended-append rs ss e f
+ended-joined rs (refuses k) e f = tt
+
+ended-then : (v : Said (List Run)) (f : List Run → Said (List Run)) → EndedIn v → ((rs : List Run) → Ended rs → EndedIn (f rs)) → EndedIn (andThen v f)
+ended-then (gives rs) f e g = g rs e
+ended-then (refuses k) f e g = tt
+
+ended-gap : (align a b : ℕ) → 0 < align → b < u32 → EndedIn (found align (a ∷ b ∷ []))
+ended-gap align a b h l =
+    elim (decLt a b) [
+      no x ↦ rw (gap-equal align a h b (omega arith)) tt |
+      yes x ↦ elim (decLt 1 (b - a)) [
+        no y ↦ rw (gap-next align a h b x (omega arith)) tt |
+        yes y ↦ elim (decLt (a + (align - a % align)) u32) [
+          no z ↦ rw (gap-far align a h b x y (omega arith)) tt |
+          yes z ↦ elim (decLt (a + (align - a % align)) b) [
+            no w ↦ rw (gap-gone align a h b x y z (omega arith)) tt |
+            yes w ↦ rw (gap-free align a h b x y z w) (omega arith, tt) ] ] ] ]
+
+ended-found : (align : ℕ) (ps : List ℕ) → 0 < align → Below ps → EndedIn (found align ps)
+ended-found align [] h b = rw (short align [] (omega arith)) tt
+ended-found align (a ∷ []) h b = rw (short align (a ∷ []) (omega arith)) tt
+ended-found align (a ∷ c ∷ ps) h b =
+    rw (found-two align a c ps)
+    (ended-then (found align (a ∷ c ∷ [])) (λ (rs : List Run). joined rs (found align ps)) (ended-gap align a c h (b .1 .0)) (λ (rs : List Run) (e : Ended rs). ended-joined rs (found align ps) e (ended-found align ps h (b .1 .1))))
+
+ended-area : (align from to : ℕ) (zs : List Run) → 0 < align → from ≤ to → EndedIn (area align from to zs)
+ended-area align from to zs h l = go (every whole zs) (ltb to u32) refl refl
+  where
+    go : (b c : Bool) → every whole zs ≡ b → ltb to u32 ≡ c → EndedIn (between align (pick b (pick c (gives (from ∷ ends zs ++ (to ∷ []))) (refuses 7)) (refuses 7)))
+    go true true p q =
+        let k : to < u32 = ltb-true to u32 q in
+        ended-found align (sort (from ∷ ends zs ++ (to ∷ []))) h (below-sort (from ∷ ends zs ++ (to ∷ [])) (omega arith, below-append (ends zs) to (below-ends zs p) k))
+    go true false p q = tt
+    go false c p q = tt
+
+ended-inner : (align : ℕ) (o : Option MBRPartitionEntry) (ls : List LogicalPartition) → 0 < align → EndedIn (inner align o ls)
+ended-inner align none ls h = tt
+ended-inner align (some e) ls h = ended-area align (e .«starting_lba») (e .«starting_lba» + e .sectors) (logicalZones ls) h (omega arith)
+
+usable : (align : ℕ) (v : Said (List Run)) → 0 < align → EndedIn v → Usable align v
+usable align (gives rs) h e = (h, e)
+usable align (refuses k) h e = tt
+
+-- a list of free runs is found at an alignment above 0 alone, and each ends by the last number of 32 bits
+pub free-usable : (t : MBR) → Usable (t .align) (free t)
+unfolding free
+free-usable t = go (leb (t .count) 24) (ltb 0 (t .align)) refl
+  where
+    v : Said (List Run)
+    v = andThen (outer t) (λ (rs : List Run). joined rs (inner (t .align) (extendedIn t) (logicals t)))
+    go : (b c : Bool) → ltb 0 (t .align) ≡ c → Usable (t .align) (pick b (pick c v (refuses 7)) (refuses 6))
+    go true true q =
+        let h : 0 < t .align = ltb-true 0 (t .align) q in
+        usable (t .align) v h (ended-then (outer t) (λ (rs : List Run). joined rs (inner (t .align) (extendedIn t) (logicals t))) (ended-area (t .align) 0 (t .«disk_size») (primaryZones (primaries (t .header))) h (omega arith)) (λ (rs : List Run) (e : Ended rs). ended-joined rs (inner (t .align) (extendedIn t) (logicals t)) e (ended-inner (t .align) (extendedIn t) (logicals t) h)))
+    go true false q = tt
+    go false c q = tt

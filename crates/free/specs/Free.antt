@@ -1,6 +1,6 @@
 -- Free runs, as the crate finds them: positions, sorted, taken in pairs. Assumes nothing.
 -- But for 6, which is tested first, every refusal is a 7; so it does not matter which step out of range the crate meets first, only that it meets one.
-use Prim.Native.Nat.{ℕ, zero, suc, _+_, _-_, _*_, _/_, _^_}
+use Prim.Native.Nat.{ℕ, zero, suc, _+_, _-_, _*_, _/_, _^_, _<_}
 use mathlib.Core.List.{List, [], _∷_, _++_, map}
 use mathlib.Core.Bool.{Bool, true, _&&_}
 use mathlib.Core.Option.{Option, none, some}
@@ -163,6 +163,29 @@ within align (some e) v = between align (closed v (e .«starting_lba» + e .sect
 -- the free runs between primaries, then those of the extended area
 abbrev pub freeIn : List MBRPartitionEntry → ℕ → ℕ → Said (List ℕ) → Said (List Run)
 freeIn es disk align v = andThen (area align 0 disk (primaryZones es)) (λ rs. joined rs (within align (extendedOf es) v))
+
+-- what an answer says: 01's number, or the runs
+abbrev pub said : Option ℕ → List Run → Said (List Run)
+said none rs = gives rs
+said (some k) rs = refuses k
+
+abbrev pub freeSaid : FreeAnswer → Said (List Run)
+freeSaid r = said (refusal (r .answer)) (runsIn (r .runs))
+
+-- numbers of 32 bits
+abbrev pub Below : List ℕ → Type 0
+Below [] = Unit {0}
+Below (p ∷ ps) = (p < u32) × Below ps
+
+-- each run's end is such a number
+abbrev pub Ended : List Run → Type 0
+Ended [] = Unit {0}
+Ended (r ∷ rs) = (r .start + r .length < u32) × Ended rs
+
+-- what places and sizes may rest on where there are runs
+abbrev pub Usable : ℕ → Said (List Run) → Type 0
+Usable align (gives rs) = (0 < align) × Ended rs
+Usable align (refuses k) = Unit {0}
 
 -- what an answer says, whole: the refusal's number or none, and the runs with every slot behind them
 abbrev pub Told : FreeAnswer → Said (List Run) → Type 0

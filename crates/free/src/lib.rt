@@ -11,7 +11,7 @@ ghost use Prim.Native.Nat.{_+_, _≤_, _<_};
 ghost use lib.ListN.{length};
 ghost use Rattle.base.specs.Said.{gives, refuses, valueOr};
 ghost use Rattle.mbr.specs.Mbr.{primaries, found as entryFound};
-ghost use Rattle.free.specs.Free.{u32, zone, primaryZones, found, joined, free, listed, runsIn, view, more, closed, gapSaid, begin, between, positions, freeIn, Told};
+ghost use Rattle.free.specs.Free.{u32, zone, primaryZones, found, joined, free, listed, runsIn, view, more, closed, gapSaid, begin, between, positions, freeIn, mostRuns, Told};
 
 pub struct Run {
     pub start: u32,
@@ -236,7 +236,7 @@ fn begin_of(f: Found) -> u32
 // The free runs between the primaries, then those of the extended area, of which p has all positions but the last.
 fn free_in(h: MBRHeader, disk: u32, align: u32, p: Points) -> FreeAnswer
     requires { ⌜ (0 < align) × (p .count < 50) ⌝ }
-    ensures { λ r. ⌜ Told r (freeIn (primaries h) disk align (view p)) ⌝ }
+    ensures { λ r. ⌜ Told r (freeIn (primaries h) disk align (view p)) × (r .runs .count ≤ mostRuns) ⌝ }
 {
     let none = Runs::new();
     let first = search_area(primary_points(h, disk), align, none);
@@ -255,7 +255,7 @@ fn free_in(h: MBRHeader, disk: u32, align: u32, p: Points) -> FreeAnswer
 
 // Free runs of a table, as the crate finds them.
 pub fn find_free_sectors(t: MBR) -> FreeAnswer
-    ensures { λ r. ⌜ Told r (free t) ⌝ }
+    ensures { λ r. ⌜ Told r (free t) × (r .runs .count ≤ mostRuns) ⌝ }
 {
     let count = t.count;
     if LOGICALS < count {

@@ -1,5 +1,5 @@
 use Rattle.mbr.specs.Mbr.{primaries}
-use Rattle.free.proofs.Laws.{told-same, free-six, free-zero, free-steps, logical-on, logical-end}
+use Rattle.free.proofs.Laws.{told-same, told-empty, free-six, free-zero, free-steps, logical-on, logical-end}
 use Rattle.free.specs.Free.{logicalZones, more, view, begin, freeIn}
 use Rattle.table.specs.Table.{logicals}
 use Rattle.base.specs.Said.{Said, gives, refuses}
@@ -23,13 +23,15 @@ refused-requires : tie.Need-refused-requires Inv-loop μ-loop
 refused-requires c κs = search needs
 
 returns : tie.Need-returns Inv-loop μ-loop
-returns c = told-same (c .refused .result) (refuses 6) _ (free-six (c .before .before .args .t1) (search needs)) (c .refused .ensures)
+returns c =
+    (told-same (c .refused .result) (refuses 6) _ (free-six (c .before .before .args .t1) (search needs)) (c .refused .ensures), omega (arith, told-empty (c .refused .result) 6 (c .refused .ensures)))
 
 refused-requires-2 : tie.Need-refused-requires-2 Inv-loop μ-loop
 refused-requires-2 c κs = search needs
 
 returns-2 : tie.Need-returns-2 Inv-loop μ-loop
-returns-2 c = told-same (c .refused2 .result) (refuses 7) _ (free-zero (c .before .before .before .args .t1) (search needs) (c .before .if2 .taken)) (c .refused2 .ensures)
+returns-2 c =
+    (told-same (c .refused2 .result) (refuses 7) _ (free-zero (c .before .before .before .args .t1) (search needs) (c .before .if2 .taken)) (c .refused2 .ensures), omega (arith, told-empty (c .refused2 .result) 7 (c .refused2 .ensures)))
 
 get-extended-partition-requires : tie.Need-get-extended-partition-requires Inv-loop μ-loop
 get-extended-partition-requires c κs = search needs
@@ -78,7 +80,7 @@ returns-3 c =
     let o = c .before .before .before .before .begin-of .ensures ∙ ap begin (c .before .before .before .before .before .get-extended-partition .ensures) in
     let v = sym (l .inv .1 .1 ∙ logical-end (t .«logical_partitions») (t .count) (l .i) k (search needs) (view (l .p))) ∙ ap (λ (u : Said (List ℕ)). more u (logicalZones (logicals t))) (c .before .before .before .from .ensures .0 ∙ ap (λ (x : ℕ). gives (x ∷ [])) o) in
     let e = ap (freeIn (primaries (t .header)) (t .«disk_size») (t .align)) v ∙ free-steps t (search needs) (search needs) in
-    told-same (c .free-in .result) _ _ e (c .free-in .ensures)
+    (told-same (c .free-in .result) _ _ e (c .free-in .ensures .0), c .free-in .ensures .1)
 
 pub find-free-sectors-spec : {M : Type 1} → statement M
 find-free-sectors-spec =

@@ -36,7 +36,7 @@ returns c =
     let w = area (s .args .align) 0 (s .args .disk) (primaryZones es) in
     let e = joined-on (ap runsIn (c .before .before .before .before .new .ensures) ∙ runs-listed []) (ap (between (s .args .align)) (c .before .before .before .primary-points .ensures .0)) ∙ sym (joined-none w) in
     let t : Told (a .result) w = told-same (a .result) _ _ e (a .ensures .0) in
-    told-stop (a .result) w (λ (rs : List Run). joined rs (within (s .args .align) (extendedOf es) (view (s .args .p)))) (c .before .match .keys2) t
+    (told-stop (a .result) w (λ (rs : List Run). joined rs (within (s .args .align) (extendedOf es) (view (s .args .p)))) (c .before .match .keys2) t, omega (arith, a .ensures .1, listed-none _ (c .before .before .before .before .new .ensures), c .before .before .before .primary-points .ensures .1))
 
 get-extended-partition-requires : tie.Need-get-extended-partition-requires
 get-extended-partition-requires c κs = search needs
@@ -57,7 +57,7 @@ returns-2 c =
     let t : Told (a .result) w = told-same (a .result) _ _ e (a .ensures .0) in
     let g = told-value (a .result) w (c .before .before .before .before .match .keys1) t in
     let o = sym (c .before .before .get-extended-partition .ensures) ∙ ap entryFound (c .enum-told3 .given .1) in
-    told-same (a .result) w _ (g ∙ free-none es (s .args .disk) (s .args .align) (view (s .args .p)) (runsIn (a .result .runs)) g o) t
+    (told-same (a .result) w _ (g ∙ free-none es (s .args .disk) (s .args .align) (view (s .args .p)) (runsIn (a .result .runs)) g o) t, omega (arith, a .ensures .1, listed-none _ (c .before .before .before .before .before .before .before .new .ensures), c .before .before .before .before .before .before .primary-points .ensures .1))
 
 wide-requires : tie.Need-wide-requires
 wide-requires c κs = search needs
@@ -94,7 +94,7 @@ returns-3 c =
     let o = sym (c .before .before .before .before .before .before .before .before .get-extended-partition .ensures) ∙ ap entryFound (f .1) in
     let x = c .before .to .ensures .0 ∙ closed-on {v = view (s .args .p)} refl (sums (c .before .before .before .wide .ensures .0) (c .before .before .wide2 .ensures .0)) in
     let y = free-some es (s .args .disk) (s .args .align) (view (s .args .p)) (runsIn (a .result .runs)) g (f .0 .0) o in
-    told-same (c .search-area2 .result) _ _ (joined-on {rs = runsIn (a .result .runs)} refl (ap (between (s .args .align)) x) ∙ y) (c .search-area2 .ensures .0)
+    (told-same (c .search-area2 .result) _ _ (joined-on {rs = runsIn (a .result .runs)} refl (ap (between (s .args .align)) x) ∙ y) (c .search-area2 .ensures .0), omega (arith, c .search-area2 .ensures .1, a .ensures .1, listed-none _ (c .before .before .before .before .before .before .before .before .before .before .before .before .before .new .ensures), c .before .before .before .before .before .before .before .before .before .before .before .before .primary-points .ensures .1, c .before .to .ensures .1, s .pre .1))
 
 pub free-in-spec : {M : Type 1} → statement M
 free-in-spec =

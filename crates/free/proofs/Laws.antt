@@ -479,14 +479,18 @@ ended-then (refuses k) f e g = tt
 ended-gap : (align a b : ℕ) → 0 < align → b < u32 → EndedIn (found align (a ∷ b ∷ []))
 ended-gap align a b h l =
     elim (decLt a b) [
-      no x ↦ rw (gap-equal align a h b (omega arith)) tt |
-      yes x ↦ elim (decLt 1 (b - a)) [
-        no y ↦ rw (gap-next align a h b x (omega arith)) tt |
-        yes y ↦ elim (decLt (a + (align - a % align)) u32) [
-          no z ↦ rw (gap-far align a h b x y (omega arith)) tt |
-          yes z ↦ elim (decLt (a + (align - a % align)) b) [
-            no w ↦ rw (gap-gone align a h b x y z (omega arith)) tt |
-            yes w ↦ rw (gap-free align a h b x y z w) (omega arith, tt) ] ] ] ]
+      | no x ↦ rw (gap-equal align a h b (omega arith)) tt
+      | yes x ↦ elim (decLt 1 (b - a)) [
+        | no y ↦ rw (gap-next align a h b x (omega arith)) tt
+        | yes y ↦ elim (decLt (a + (align - a % align)) u32) [
+          | no z ↦ rw (gap-far align a h b x y (omega arith)) tt
+          | yes z ↦ elim (decLt (a + (align - a % align)) b) [
+            | no w ↦ rw (gap-gone align a h b x y z (omega arith)) tt
+            | yes w ↦ rw (gap-free align a h b x y z w) (omega arith, tt)
+          ]
+        ]
+      ]
+    ]
 
 ended-found : (align : ℕ) (ps : List ℕ) → 0 < align → Below ps → EndedIn (found align ps)
 ended-found align [] h b = rw (short align [] (omega arith)) tt
@@ -520,6 +524,7 @@ free-usable t = go (leb (t .count) 24) (ltb 0 (t .align)) refl
   where
     v : Said (List Run)
     v = andThen (outer t) (λ (rs : List Run). joined rs (inner (t .align) (extendedIn t) (logicals t)))
+
     go : (b c : Bool) → ltb 0 (t .align) ≡ c → Usable (t .align) (pick b (pick c v (refuses 7)) (refuses 6))
     go true true q =
         let h : 0 < t .align = ltb-true 0 (t .align) q in

@@ -25,7 +25,8 @@ use Rattle.table.specs.declared.LogicalPartition.{LogicalPartition}
 use Rattle.chain.specs.Facts.{at, start}
 use Rattle.push.specs.declared.Geometry.{Geometry}
 use Rattle.push.specs.Address.{complete, addressIn, addressChecks, lastChecks, linkChecks, updateChecks, linkAddress, addressed}
-use Rattle.push.specs.Push.{Request, placeOf, sizeOf, fresh, newLogical, geometryChecks}
+use Rattle.push.specs.declared.Request.{Request}
+use Rattle.push.specs.Push.{placeOf, sizeOf, fresh, newLogical, geometryChecks}
 use Rattle.sound.specs.Sound.{end, Within, IfThere}
 use Rattle.sound.proofs.Good.{Good, Span}
 use Rattle.careful.specs.Demand3.{Asked}

@@ -17,7 +17,8 @@ use Rattle.chain.specs.Facts.{nextOf, linkIn, bodyOf}
 use Rattle.align.specs.Align.{usedStarts, dividesAll, largest, divisorTo, alignment}
 use Rattle.read.specs.Read.{headerOn, withChain, read}
 use Rattle.push.specs.Address.{complete, updateChecks, addressed}
-use Rattle.push.specs.Push.{Request, rounded, fresh, newLogical, roundChecks, placeChecks, endChecks, geometryChecks, pushChecks, pushed}
+use Rattle.push.specs.declared.Request.{Request}
+use Rattle.push.specs.Push.{rounded, fresh, newLogical, roundChecks, placeChecks, endChecks, geometryChecks, pushChecks, pushed}
 use Rattle.sound.specs.Is.{allb, pairsb, rowb}
 use Rattle.sound.specs.Sound.{areaStart, areaEnd, end, signedb, flagsb, addressesb, startsb, sizesb, onDiskb, allApartb, oneExtendedb, ownedb, logicalsUsedb, logicalsPlainb, logicalsSizedb, afterEbrb, endsb, firstAtb, ascendb, linksSizedb, linksEndb, linksCoverb, soundRules, soundb}
 use Rattle.careful.specs.Stores.{linkEntry, ebrFor, write, wipe, moved, firstPlace, leftOut, lastOf, pushStores, skipStore, removeStore}

@@ -5,6 +5,7 @@ use cases::say;
 use extract::Outcome;
 use free::FreeAnswer;
 use free::RUNS;
+use free::Run;
 use place::Place;
 use place::Size;
 use table::MBR;
@@ -21,8 +22,7 @@ fn given(l: &[u8], read: MBR) -> MBR {
     t
 }
 
-use free::Run;
-
+// Start and length of each run.
 fn show(at: [Run; RUNS], n: usize) {
     for i in 0..RUNS {
         if i < n {

@@ -15,9 +15,9 @@ use Rattle.entry.specs.declared.MBRPartitionEntry.{MBRPartitionEntry}
 use Rattle.extract.specs.Disk.{Disk}
 use Rattle.table.specs.declared.LogicalPartition.{LogicalPartition}
 use Rattle.table.specs.declared.MBR.{MBR}
-use Rattle.table.specs.Table.{most, logicals, emptySlot}
+use Rattle.table.specs.Table.{most, logicals, emptySlot, slots}
 use Rattle.chain.specs.Facts.{View, Holds, seen}
-use Rattle.read.specs.Read.{Table, slots, tableOf}
+use Rattle.read.specs.Read.{Table, tableOf}
 use Rattle.push.specs.declared.Request.{Request}
 use Rattle.push.specs.Push.{isSome, orNone, laterThan, roundChecks, placeChecks, endChecks, geometryChecks, pushChecks, pushed, tableChecks, pushedTo, pushTable}
 use Rattle.lookup.specs.Remove.{without, removedTable}

@@ -2,3 +2,4 @@ pub mod Facts
 pub mod Looked
 pub mod Says
 pub mod Wants
+pub mod Collect

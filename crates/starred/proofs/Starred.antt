@@ -2,11 +2,12 @@
 use mathlib.Core.Path.{_≡_, refl}
 use mathlib.Core.Bool.{true}
 use Rattle.mbr.specs.Mbr.{extendedOf}
+use Rattle.align.specs.Align.{alignment, divisorTo, dividesAll, largest}
 use Rattle.sort.specs.Sort.{sort, insert}
 use Rattle.free.specs.Free.{free, every as eachRun, primaryZones, logicalZones, ends, pairs, apart, kept}
 use Rattle.place.specs.Place.{roomy}
 use Rattle.starred.specs.Starred.{rows, every}
 
 pub starred-hold : every rows ≡ true
-unfolding free eachRun primaryZones logicalZones ends pairs apart kept sort insert extendedOf roomy
+unfolding alignment divisorTo dividesAll largest free eachRun primaryZones logicalZones ends pairs apart kept sort insert extendedOf roomy
 starred-hold = refl

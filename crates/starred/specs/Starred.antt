@@ -3,6 +3,7 @@ use Prim.Native.Nat.{ℕ}
 use mathlib.Core.Bool.{Bool, true, false, not, _&&_}
 use mathlib.Core.List.{List, [], _∷_}
 use lib.Dec.{eqb}
+use Rattle.align.specs.Align.{alignment}
 use Rattle.base.specs.Said.{Said, gives, refuses}
 use Rattle.chs.specs.declared.CHS.{CHS}
 use Rattle.chs.specs.Chs.{chs, chsBytes, exact, aligned, isValid, noChs}
@@ -102,6 +103,11 @@ placed (gives none) ns = same [] ns
 placed (gives (some p)) ns = same (p ∷ []) ns
 placed (refuses k) ns = false
 
+-- the number is given
+abbrev pub number : Said ℕ → ℕ → Bool
+number (gives n) m = eqb n m
+number (refuses k) m = false
+
 abbrev pub rows : List Bool
 rows =
     -- CHS bytes
@@ -118,6 +124,9 @@ rows =
     ∷ no (exact 66 10 2 3) 14
     ∷ at (aligned 6 10 2 3) (chs 1 0 1)
     ∷ at (aligned 7 10 2 3) (chs 2 0 1)
+    -- alignment
+    ∷ number (alignment (63 ∷ [])) 63
+    ∷ number (alignment (32768 ∷ [])) 16384
     -- free runs and places
     ∷ runs (free disk10000) (4096 ∷ 5904 ∷ [])
     ∷ placed (lastPlace disk10000 1000) (8192 ∷ [])

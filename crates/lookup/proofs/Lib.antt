@@ -2,3 +2,4 @@ pub mod Shift
 pub mod Laws
 pub mod Numbers
 pub mod Search
+pub mod Extended

@@ -1,9 +1,4 @@
 // Runs the cases on standard input and writes their answers. second/answers.py says what the commands are.
-mod on_chs;
-mod on_ebr;
-mod on_entry;
-mod on_extract;
-mod on_mbr;
 
 use cases::lent;
 use cases::lent::Lengths;

@@ -17,7 +17,7 @@ use Rattle.base.specs.declared.Answer.the-variants.{Done, Refused}
 use Rattle.base.proofs.Checks.{checked-some, checked-none}
 use Rattle.entry.specs.declared.MBRPartitionEntry.{MBRPartitionEntry}
 use Rattle.mbr.specs.declared.MBRHeader.{MBRHeader}
-use Rattle.mbr.specs.declared.HeaderAnswer.{HeaderAnswer}
+use Rattle.mbrread.specs.declared.HeaderAnswer.{HeaderAnswer}
 use Rattle.mbr.specs.Mbr.{mbrOf, headerChecks, lentChecks, noHeader, primaries, extendedOf}
 use Rattle.extract.specs.Disk.{Disk}
 use Rattle.extract.specs.Extract.{Good, diskOf, diskSectors, sectorSize, recordOf, blank}

@@ -81,7 +81,7 @@ fn header_of(x: &[u8], n: usize, d: u32) -> HeaderRead
     if r.len() == 0 {
         return no_header(3);
     }
-    let a = MBRHeader::read(r);
+    let a = mbrread::read(r);
     let answer = a.answer;
     match answer {
         Answer::Refused(k) => no_header(k),

@@ -8,7 +8,7 @@ use Rattle.read.proofs.header_of.Tie as tie
 use Rattle.read.proofs.header_of.Reads as reads
 use Rattle.read.proofs.header_of.Lts as lts
 use Rattle.extract.proofs.record_of.Reads as record-of-reads
-use Rattle.mbr.proofs.MBRHeader.read.Reads as read-reads
+use Rattle.mbrread.proofs.read.Reads as read-reads
 use Rattle.read.proofs.no_header.Reads as no-header-reads
 
 no-header-requires : tie.Need-no-header-requires

@@ -20,7 +20,7 @@ use Rattle.chain.specs.Chain.{Link, firstLink, linkOf, startingAt, place
 use Rattle.chain.specs.Facts.{Body, Next, stop, to, View, bad, ebr, nextOf, bodyIn, viewed, saw, at, start, linkIn, bodyOf, leads, Held, Before, Plain, Begins, Rows, Chained, Empty, Holds}
 
 -- the chain from X + rel on, over the sectors seen as EBRs
-unfoldable placedBy : ℕ → Link → Body → LogicalPartition
+unfoldable pub placedBy : ℕ → Link → Body → LogicalPartition
 placedBy a k b =
     record {
       partition = startingAt (b .part .«starting_lba» + a) (b .part);
@@ -68,7 +68,7 @@ pub body-start : (l : LogicalPartition) → bodyOf l .part .«starting_lba» ≡
 unfolding bodyOf
 body-start l = refl
 
-placed-body : (l : LogicalPartition) → at l ≤ start l → placedBy (at l) (linkIn l) (bodyOf l) ≡ l
+pub placed-body : (l : LogicalPartition) → at l ≤ start l → placedBy (at l) (linkIn l) (bodyOf l) ≡ l
 unfolding placedBy bodyOf linkIn
 placed-body l h =
     let e : start l - at l + at l ≡ start l = omega arith in

@@ -1,153 +1,177 @@
--- Parts and their code: what is attached is the chain that was read. Assumes nothing.
+-- Logical partitions made of the records that were found: they are those of the chain. Assumes nothing.
 use mathlib.Core.Path.{_≡_, refl, sym, ap, subst, _∙_}
-use mathlib.Core.List.{List, [], _∷_, _++_, map, map-append, append-assoc, append-nil}
+use mathlib.Core.List.{List, [], _∷_, _++_, map}
 use mathlib.Core.Option.{Option, none, some}
+use mathlib.Core.Bool.{Bool, true, false}
 use Prim.Native.Nat.{ℕ, zero, suc, _+_, _-_, _≤_, _<_}
 use native.Mathlib.Omega.{arith}
-use native.Mathlib.Numerals.{add-one}
-use lib.ListN.{length, getD, set, take, drop, replicate, length-map, length-set, length-replicate}
-use lib.Seq.{take-suc, take-suc-set, set-append-seam, append-snoc, length-take-le}
+use native.Mathlib.Numerals.{add-one, sub-one}
+use lib.Dec.{eqb}
+use lib.ListN.{length, getD, set, take, replicate, length-map}
+use lib.Seq.{take-suc, set-append-seam, append-snoc, length-take-le}
+use borrow.Author.Tests.{ne-eqb}
+use Rattle.base.specs.Pick.{pick}
 use Rattle.base.specs.Said.{Said, gives, refuses}
 use Rattle.base.specs.Row.{next, Row}
 use Rattle.entry.specs.declared.MBRPartitionEntry.{MBRPartitionEntry}
-use Rattle.ebr.specs.declared.Kept.{Kept}
-use Rattle.ebr.specs.Ebr.{keptOf, noKept}
+use Rattle.ebr.specs.declared.EBRHeader.{EBRHeader}
+use Rattle.ebr.specs.Ebr.{ebrOf}
 use Rattle.extract.specs.Disk.{Disk}
-use Rattle.extract.specs.Extract.{blank}
+use Rattle.extract.specs.Extract.{Good, count, lbaAt, recordAt, diskOf, blank}
+use Rattle.extract.proofs.Disk.{sector-of}
+use Rattle.extract.proofs.Halves.{found-is}
 use Rattle.table.specs.declared.LogicalPartition.{LogicalPartition}
-use Rattle.table.specs.Table.{most, emptySlot, slots}
-use Rattle.chain.specs.declared.Part.{Part}
-use Rattle.chain.specs.declared.Chain.{Chain}
-use Rattle.chain.specs.Chain.{view, logicalsOf}
-use Rattle.chain.specs.Facts.{Body, Next, View, bodyOf, leads, Held, Plain, Begins, Rows, Holds, at, seen}
-use Rattle.chain.specs.Thin.{thin, thick, added, addedAll, noChain, noPart, told, stepped}
-use Rattle.chain.specs.declared.ChainRead.{ChainRead}
-use Rattle.chain.specs.declared.Logicals.{Logicals}
+use Rattle.table.specs.Table.{most, noLogical, emptySlot, slots, parts}
+use Rattle.chain.specs.Chain.{view, Link, firstLink, linkOf, placed, logicalsOf}
+use Rattle.chain.specs.Facts.{Body, Next, stop, to, View, nextOf, bodyIn, bodyOf, leads, linkIn, Held, Plain, Begins, Rows, Holds, at, seen}
+use Rattle.chain.specs.Walk.{placesOf, counted, Fit, Fits, Noted, NotedAll, firstOf, partIn, lifted, linkAt, rebuilt, linkTo, Logicals, told}
+use Rattle.chain.specs.declared.Counted.{Counted}
 use Rattle.chain.proofs.View.{Seen, seen→view, view→facts}
-use Rattle.chain.proofs.Rows.{logicals→holds}
+use Rattle.chain.proofs.Rows.{placedBy, placed-body, logicals→holds}
 
--- a blank sector has no code
-pub kept-blank : noKept ≡ keptOf blank
-unfolding noKept keptOf
-kept-blank = refl
+-- number j of the partitions that are made
+pub rebuilt-long : (x : List ℕ) (k : Link) (is : List ℕ) → length (rebuilt x k is) ≡ length is
+unfolding rebuilt
+rebuilt-long x k [] = refl
+rebuilt-long x k (i ∷ is) = ap suc (rebuilt-long x (linkAt x i) is)
 
--- the first i parts in their slots
-abbrev pub sofar : Disk → List Part → ℕ → List LogicalPartition
-sofar d ps i = map (thick d) (take i ps) ++ replicate (24 - i) emptySlot
+link-later : (x : List ℕ) (k m : Link) (i : ℕ) (is : List ℕ) (j : ℕ) → linkTo x k (i ∷ is) (suc (suc j)) ≡ linkTo x m is (suc j)
+link-later x k m i is j = rw (ne-eqb (suc (suc j)) 0 (λ z. absurd (omega arith)), ne-eqb (suc j) 0 (λ z. absurd (omega arith)), sub-one, sub-one)
 
-pub sofar-none : (d : Disk) (ps : List Part) → replicate 24 emptySlot ≡ sofar d ps 0
-sofar-none d ps = refl
+pub rebuilt-at : (x : List ℕ) (k : Link) (is : List ℕ) (j : ℕ) → j < length is → lifted x (linkTo x k is j) (getD is j 0) ≡ getD (rebuilt x k is) j noLogical
+unfolding rebuilt
+rebuilt-at x k [] j h = absurd (omega arith)
+rebuilt-at x k (i ∷ is) zero h = refl
+rebuilt-at x k (i ∷ is) (suc zero) h = rebuilt-at x (linkAt x i) is zero (omega arith)
+rebuilt-at x k (i ∷ is) (suc (suc j)) h =
+    ap (λ (y : Link). lifted x y (getD is (suc j) 0)) (link-later x k (linkAt x i) i is j) ∙ rebuilt-at x (linkAt x i) is (suc j) (omega arith)
+
+-- their entries
+pub rebuilt-parts : (x : List ℕ) (k : Link) (is : List ℕ) (m : ℕ) → parts (take m (rebuilt x k is)) ≡ map (partIn x) (take m is)
+unfolding rebuilt placed
+rebuilt-parts x k is zero = refl
+rebuilt-parts x k [] (suc m) = refl
+rebuilt-parts x k (i ∷ is) (suc m) = ap (λ (es : List MBRPartitionEntry). partIn x i ∷ es) (rebuilt-parts x (linkAt x i) is m)
+
+-- the first i of 24 in their slots
+abbrev pub sofar : List LogicalPartition → ℕ → List LogicalPartition
+sofar ls i = take i ls ++ replicate (24 - i) emptySlot
+
+pub sofar-none : (ls : List LogicalPartition) → replicate 24 emptySlot ≡ sofar ls 0
+sofar-none ls = refl
 
 set-at : {A : Type 0} (xs : List A) (y : A) (ys : List A) (i : ℕ) (a : A) → length xs ≡ i → set (xs ++ y ∷ ys) i a ≡ xs ++ a ∷ ys
 set-at xs y ys i a e = subst (λ (k : ℕ). set (xs ++ y ∷ ys) k a ≡ xs ++ a ∷ ys) e (set-append-seam xs y ys a)
 
-pub sofar-more : (d : Disk) (ps : List Part) (i : ℕ) → length ps ≡ 24 → i < 24 → set (sofar d ps i) i (thick d (getD ps i noPart)) ≡ sofar d ps (i + 1)
-sofar-more d ps i l h =
+pub sofar-more : (ls : List LogicalPartition) (i : ℕ) → length ls ≡ 24 → i < 24 → set (sofar ls i) i (getD ls i noLogical) ≡ sofar ls (i + 1)
+sofar-more ls i l h =
     let r : 24 - i ≡ suc (24 - (i + 1)) = omega arith in
-    let f = thick d in
-    let A = map f (take i ps) in
     let R = replicate (24 - (i + 1)) emptySlot in
-    let v = f (getD ps i noPart) in
-    let n : length A ≡ i = length-map (take i ps) f ∙ length-take-le i ps (omega arith) in
-    let t : take (i + 1) ps ≡ take i ps ++ (getD ps i noPart ∷ []) = ap (λ (k : ℕ). take k ps) (add-one i) ∙ take-suc ps i noPart (omega arith) in
-    let m : map f (take (i + 1) ps) ≡ A ++ (v ∷ []) = ap (map f) t ∙ map-append f (take i ps) (getD ps i noPart ∷ []) in
-    ap (λ (k : ℕ). set (A ++ replicate k emptySlot) i v) r
-    ∙ set-at A emptySlot R i v n
-    ∙ sym (ap (λ (z : List LogicalPartition). z ++ R) m ∙ append-snoc A v R)
+    let v = getD ls i noLogical in
+    let n : length (take i ls) ≡ i = length-take-le i ls (omega arith) in
+    let t : take (i + 1) ls ≡ take i ls ++ (v ∷ []) = ap (λ (k : ℕ). take k ls) (add-one i) ∙ take-suc ls i noLogical (omega arith) in
+    ap (λ (k : ℕ). set (take i ls ++ replicate k emptySlot) i v) r
+    ∙ set-at (take i ls) emptySlot R i v n
+    ∙ sym (ap (λ (z : List LogicalPartition). z ++ R) t ∙ append-snoc (take i ls) v R)
 
-pub sofar-slots : (d : Disk) (ps : List Part) (i : ℕ) → length ps ≡ 24 → i ≤ 24 → sofar d ps i ≡ slots (map (thick d) (take i ps))
+pub sofar-slots : (ls : List LogicalPartition) (i : ℕ) → length ls ≡ 24 → i ≤ 24 → sofar ls i ≡ slots (take i ls)
 unfolding slots
-sofar-slots d ps i l h =
-    let n : length (map (thick d) (take i ps)) ≡ i = length-map (take i ps) (thick d) ∙ length-take-le i ps (omega arith) in
+sofar-slots ls i l h =
+    let n : length (take i ls) ≡ i = length-take-le i ls (omega arith) in
     rw n
 
--- the parts that were added
-pub added-count : (c : Chain) (ls : List LogicalPartition) → addedAll c ls .count ≡ c .count + length ls
-unfolding addedAll
-added-count c [] = omega arith
-added-count c (l ∷ ls) = added-count (added c (thin l)) ls ∙ omega arith
+-- the records that were noted
+pub noted-fits : (x is ps : List ℕ) → Noted x is ps → Fits x (length ps) is
+noted-fits x is [] n j h = absurd (omega arith)
+noted-fits x [] (a ∷ ps) n j h = absurd n
+noted-fits x (i ∷ is) (a ∷ ps) n zero h = n .0
+noted-fits x (i ∷ is) (a ∷ ps) n (suc j) h = noted-fits x is ps (n .2) j (omega arith)
 
-pub added-parts : (c : Chain) (ls : List LogicalPartition) → c .count + length ls ≤ length (c .parts)
-    → take (addedAll c ls .count) (addedAll c ls .parts) ≡ take (c .count) (c .parts) ++ map thin ls
-unfolding addedAll
-added-parts c [] h = sym (append-nil (take (c .count) (c .parts)))
-added-parts c (l ∷ ls) h =
-    let b = added c (thin l) in
-    let n : length (b .parts) ≡ length (c .parts) = length-set (c .parts) (c .count) (thin l) in
-    let t : take (c .count + 1) (set (c .parts) (c .count) (thin l)) ≡ take (c .count) (c .parts) ++ (thin l ∷ []) =
-    ap (λ (k : ℕ). take k (set (c .parts) (c .count) (thin l))) (add-one (c .count)) ∙ take-suc-set (c .parts) (c .count) (thin l) (omega arith) in
-    added-parts b ls (omega arith) ∙ ap (λ (z : List Part). z ++ map thin ls) t ∙ append-snoc (take (c .count) (c .parts)) (thin l) (map thin ls)
+-- a logical partition that the disk holds is made of its record
+placed-by : (a : ℕ) (k : Link) (h : EBRHeader) → placed a k h ≡ placedBy a k (bodyIn h)
+unfolding placed placedBy
+placed-by a k h = refl
 
--- a logical partition that the disk holds is its part with the code
-body-kept : (l : LogicalPartition) → bodyOf l .kept ≡ l .kept
-unfolding bodyOf
-body-kept l = refl
+link-next : (e : MBRPartitionEntry) (r : ℕ) (k : Link) → nextOf e ≡ to r k → linkOf e ≡ k
+unfolding nextOf
+link-next e r k q = go (eqb (e .«starting_lba») 0) q
+  where
+    go : (b : Bool) → pick b stop (to (e .«starting_lba») (linkOf e)) ≡ to r k → linkOf e ≡ k
+    go true q = let z : _≡_ {A = ℕ} 0 1 = cc in absurd (omega arith)
+    go false q = cc
 
-held-thick : (d : Disk) (X : ℕ) (l : LogicalPartition) (n : Option LogicalPartition) → Held (seen d) X l n → thick d (thin l) ≡ l
-unfolding thick thin
-held-thick d X l n h =
-    let s = seen→view (view d (at l)) (bodyOf l) (leads X n) h in
-    let f = view→facts d (at l) (s .header) (s .is) in
-    let k : keptOf (d .sector (at l)) ≡ l .kept = ap (λ y. y .kept) (f .1) ∙ ap (λ (y : Body). y .kept) (s .body) ∙ body-kept l in
-    λ i. record {
-      partition = l .partition;
-      «absolute_ebr_lba» = l .«absolute_ebr_lba»;
-      «ebr_sectors» = l .«ebr_sectors»;
-      «ebr_first_chs» = l .«ebr_first_chs»;
-      «ebr_last_chs» = l .«ebr_last_chs»;
-      kept = k i;
-    }
+module _ (x : List ℕ) (g : Good x) (X : ℕ) where
+  -- the EBR of a noted record
+  header-noted : (l : LogicalPartition) (n : Option LogicalPartition) (i : ℕ) → Held (seen (diskOf x)) X l n → Fit x i → lbaAt x i ≡ at l
+      → (bodyIn (ebrOf (recordAt x i)) ≡ bodyOf l) × (nextOf (ebrOf (recordAt x i) .«partition_2») ≡ leads X n)
+  header-noted l n i h f e =
+      let s = seen→view (view (diskOf x) (at l)) (bodyOf l) (leads X n) h in
+      let v = view→facts (diskOf x) (at l) (s .header) (s .is) in
+      let r : diskOf x .sector (at l) ≡ recordAt x i = sector-of x (at l) ∙ found-is x blank g (at l) i (f .inside) e in
+      let q : ebrOf (recordAt x i) ≡ s .header = ap ebrOf (sym r) ∙ v .1 in
+      (ap bodyIn q ∙ s .body, ap (λ (y : EBRHeader). nextOf (y .«partition_2»)) q ∙ s .leads)
 
-row-thick : (d : Disk) (X : ℕ) (ls : List LogicalPartition) (n : Option LogicalPartition) → Row (Held (seen d) X) ls n → map (thick d) (map thin ls) ≡ ls
-row-thick d X [] n r = refl
-row-thick d X (l ∷ ls) n r = λ i. held-thick d X l (next ls n) (r .0) i ∷ row-thick d X ls n (r .1) i
+  lifted-held : (l : LogicalPartition) (n : Option LogicalPartition) (i : ℕ) → Held (seen (diskOf x)) X l n → Plain X l n → Fit x i → lbaAt x i ≡ at l → lifted x (linkIn l) i ≡ l
+  lifted-held l n i h p f e =
+      placed-by (lbaAt x i) (linkIn l) (ebrOf (recordAt x i))
+      ∙ ap (placedBy (lbaAt x i) (linkIn l)) (header-noted l n i h f e .0)
+      ∙ ap (λ (a : ℕ). placedBy a (linkIn l) (bodyOf l)) e
+      ∙ placed-body l (p .after)
 
-pub holds-thick : (d : Disk) (o : Option MBRPartitionEntry) (ls : List LogicalPartition) → Holds (seen d) o ls → map (thick d) (map thin ls) ≡ ls
-holds-thick d o [] h = refl
-holds-thick d none (l ∷ ls) h = absurd h
-holds-thick d (some e) (l ∷ ls) h = row-thick d (e .«starting_lba») (l ∷ ls) none (h .held)
+  -- k leads to the first of them
+  abbrev Led : Link → List LogicalPartition → Type 0
+  Led k [] = Unit {0}
+  Led k (l ∷ ls) = linkIn l ≡ k
+
+  led-next : (l : LogicalPartition) (ls : List LogicalPartition) (i : ℕ) → Held (seen (diskOf x)) X l (next ls none) → Fit x i → lbaAt x i ≡ at l → Led (linkAt x i) ls
+  led-next l [] i h f e = tt
+  led-next l (m ∷ ms) i h f e = sym (link-next (ebrOf (recordAt x i) .«partition_2») (at m - X) (linkIn m) (header-noted l (some m) i h f e .1))
+
+  row-rebuilt : (k : Link) (ls : List LogicalPartition) (is : List ℕ) → Led k ls → Row (Held (seen (diskOf x)) X) ls none → Row (Plain X) ls none → Noted x is (map at ls)
+      → take (length ls) (rebuilt x k is) ≡ ls
+  unfolding rebuilt
+  row-rebuilt k [] is b h p n = refl
+  row-rebuilt k (l ∷ ls) [] b h p n = absurd n
+  row-rebuilt k (l ∷ ls) (i ∷ is) b h p n =
+      let e : lifted x k i ≡ l = ap (λ (y : Link). lifted x y i) (sym b) ∙ lifted-held l (next ls none) i (h .0) (p .0) (n .0) (n .1) in
+      let t = row-rebuilt (linkAt x i) ls is (led-next l ls i (h .0) (n .0) (n .1)) (h .1) (p .1) (n .2) in
+      λ j. e j ∷ t j
+
+holds-rebuilt : (x : List ℕ) → Good x → (o : Option MBRPartitionEntry) (ls : List LogicalPartition) (is : List ℕ) → Holds (seen (diskOf x)) o ls → Noted x is (map at ls)
+    → take (length ls) (rebuilt x (firstOf o) is) ≡ ls
+holds-rebuilt x g o [] is h n = refl
+holds-rebuilt x g none (l ∷ ls) is h n = absurd h
+holds-rebuilt x g (some e) (l ∷ ls) is h n = row-rebuilt x g (e .«starting_lba») (firstLink e) (l ∷ ls) is (h .begins .1) (h .held) (h .plain) n
 
 pub holds-few : (w : ℕ → View) (o : Option MBRPartitionEntry) (ls : List LogicalPartition) → Holds w o ls → length ls ≤ most
 holds-few w o [] h = omega arith
 holds-few w none (l ∷ ls) h = absurd h
 holds-few w (some e) (l ∷ ls) h = h .few
 
--- the chain that was read, in slots
-blank-count : noChain .count ≡ 0
-unfolding noChain
-blank-count = refl
-
-blank-long : length (noChain .parts) ≡ 24
-unfolding noChain
-blank-long = refl
-
-blank-none : take (noChain .count) (noChain .parts) ≡ []
-unfolding noChain
-blank-none = refl
-
-pub count-read : (ls : List LogicalPartition) → addedAll noChain ls .count ≡ length ls
-count-read ls = added-count noChain ls ∙ omega (arith, blank-count)
-
-pub parts-read : (d : Disk) (o : Option MBRPartitionEntry) (ls : List LogicalPartition) → logicalsOf (view d) o ≡ gives ls
-    → map (thick d) (take (addedAll noChain ls .count) (addedAll noChain ls .parts)) ≡ ls
-parts-read d o ls h =
-    let k = logicals→holds (view d) o ls h in
-    let f = holds-few (seen d) o ls k in
-    let t = added-parts noChain ls (omega (arith, blank-count, blank-long)) ∙ ap (λ (z : List Part). z ++ map thin ls) blank-none in
-    ap (map (thick d)) t ∙ holds-thick d o ls k
-
 -- what reading a chain leads to
-abbrev pub chainParts : Disk → Chain → List LogicalPartition
-chainParts d c = slots (map (thick d) (take (c .count) (c .parts)))
+abbrev pub readAs : List ℕ → Option MBRPartitionEntry → List ℕ → Counted → Logicals
+readAs x o is r = record { answer = r .answer; logicals = slots (take (r .count) (rebuilt x (firstOf o) is)); count = r .count }
 
-pub told-chain : (d : Disk) (o : Option MBRPartitionEntry) (r : ChainRead) → r ≡ stepped noChain (logicalsOf (view d) o)
-    → (r .chain .count ≤ 24) × (record { answer = r .answer; logicals = chainParts d (r .chain); count = r .chain .count } ≡ told (logicalsOf (view d) o))
-told-chain d o r e = go (logicalsOf (view d) o) refl e
-  where
-    go : (s : Said (List LogicalPartition)) → logicalsOf (view d) o ≡ s → r ≡ stepped noChain s
-        → (r .chain .count ≤ 24) × (record { answer = r .answer; logicals = chainParts d (r .chain); count = r .chain .count } ≡ told s)
-    go (gives ls) q e =
-        let f = holds-few (seen d) o ls (logicals→holds (view d) o ls q) in
-        rw e (omega (arith, count-read ls), λ i. record { answer = stepped noChain (gives ls) .answer; logicals = slots (parts-read d o ls q i); count = count-read ls i })
-    go (refuses k) q e =
-        rw e (omega (arith, blank-count), λ i. record { answer = stepped noChain (refuses k) .answer; logicals = slots (map (thick d) (blank-none i)); count = blank-count i })
+module _ (x : List ℕ) (g : Good x) (o : Option MBRPartitionEntry) (is : List ℕ) (r : Counted) where
+  abbrev said : Said (List LogicalPartition)
+  said = logicalsOf (view (diskOf x)) o
+
+  pub told-chain : r ≡ counted 0 (placesOf said) → NotedAll x is (placesOf said) → (r .count ≤ 24) × Fits x (r .count) is × (readAs x o is r ≡ told said)
+  told-chain q n = go said refl q n
+    where
+      go : (s : Said (List LogicalPartition)) → said ≡ s → r ≡ counted 0 (placesOf s) → NotedAll x is (placesOf s)
+          → (r .count ≤ 24) × Fits x (r .count) is × (readAs x o is r ≡ told s)
+      go (refuses k) z q n = rw q (omega arith, λ j h. absurd (omega arith), refl)
+      go (gives ls) z q n =
+          let h = logicals→holds (view (diskOf x)) o ls z in
+          let c : r .count ≡ length ls = ap (λ (y : Counted). y .count) q ∙ omega (arith, length-map ls at) in
+          let f : Fits x (length ls) is = rw (length-map ls at) at (noted-fits x is (map at ls) n) in
+          let a : r .answer ≡ told (gives ls) .answer = ap (λ (y : Counted). y .answer) q in (
+            omega (arith, holds-few (seen (diskOf x)) o ls h),
+            rw c f,
+            λ j. record {
+              answer = a j;
+              logicals = slots ((ap (λ (m : ℕ). take m (rebuilt x (firstOf o) is)) c ∙ holds-rebuilt x g o ls is h n) j);
+              count = c j;
+            },
+          )

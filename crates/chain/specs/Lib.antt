@@ -1,3 +1,3 @@
 pub mod Chain
 pub mod Facts
-pub mod Thin
+pub mod Walk

@@ -1,11 +1,10 @@
 // The chain of EBRs, read from a checked extract.
 use chs::CHS;
-use ebr::Entries;
-use ebr::Kept;
 use ebr::Opened;
 use entry::MBRPartitionEntry;
 use extract::Outcome;
 use extract::Refusal;
+use extract::Spot;
 use table::DiskLba;
 use table::LOGICALS;
 use table::LinkLba;
@@ -14,54 +13,40 @@ use table::MaybeChs;
 use table::MaybeSectors;
 ghost use mathlib.Core.Path.{_≡_};
 ghost use mathlib.Core.Option.{some};
-ghost use mathlib.Core.List.{[], map};
-ghost use Prim.Native.Nat.{_+_, _≤_, _<_, _^_};
-ghost use lib.ListN.{length, take};
-ghost use Rattle.base.specs.Said.{gives, refuses};
-ghost use Rattle.ebr.specs.Ebr.{opened, keptOf};
-ghost use Rattle.extract.specs.Extract.{Good, count, diskSectors, diskOf};
+ghost use Prim.Native.Nat.{_+_, _-_, _≤_, _<_};
+ghost use lib.ListN.{length, getD, take, drop};
+ghost use Rattle.base.specs.Said.{refuses};
+ghost use Rattle.base.specs.Checks.{answer};
+ghost use Rattle.ebr.specs.Ebr.{ebrChecks, entriesOf};
+ghost use Rattle.extract.specs.Extract.{Good, count, diskSectors, lbaAt, recordAt, diskOf};
 ghost use Rattle.table.specs.Table.{slots};
-ghost use Rattle.chain.specs.Chain.{view, linkOf, chain, logicalsOf};
-ghost use Rattle.chain.specs.Thin.{linkBy, bare, shown, partOf, lifted, added, noChain, stepped, followOn, thick, told};
+ghost use Rattle.chain.specs.Chain.{view, firstLink, linkOf, logicalsOf};
+ghost use Rattle.chain.specs.Walk.{endsOf, endsSaid, headEnds, metSaid, HeadAt, MetAt, onwards, places, placesFrom, placesOf, counted, Fit, NotedAll, Fits, linkBy, partIn, lifted, rebuilt, linkTo};
+
+// An EBR that is opened: the number of its record, its partition's start and its link's.
+pub struct Head {
+    pub number: usize,
+    pub start: u32,
+    pub link: LinkLba,
+}
+
+// An EBR's head, or a refusal's number.
+pub enum Met {
+    Shut(u8),
+    Ebr(Head),
+}
+
+// The number of EBRs of a chain, or a refusal and none.
+pub struct Counted {
+    pub answer: Outcome,
+    pub count: usize,
+}
 
 // The way to an EBR: its link's sectors, first and last CHS.
 pub struct Way {
     pub sectors: MaybeSectors,
     pub first: CHS,
     pub last: MaybeChs,
-}
-
-// A logical partition without the code of its EBR.
-pub struct Part {
-    pub partition: MBRPartitionEntry,
-    pub absolute_ebr_lba: DiskLba,
-    pub ebr_sectors: MaybeSectors,
-    pub ebr_first_chs: CHS,
-    pub ebr_last_chs: MaybeChs,
-}
-
-pub struct Chain {
-    pub parts: [Part; LOGICALS],
-    pub count: usize,
-}
-
-// A chain, or a refusal with no part of one.
-pub struct ChainRead {
-    pub answer: Outcome,
-    pub chain: Chain,
-}
-
-// Logical partitions in their slots, or a refusal without any.
-pub struct Logicals {
-    pub answer: Outcome,
-    pub logicals: [LogicalPartition; LOGICALS],
-    pub count: usize,
-}
-
-// The part of an EBR, unless its start is out of range.
-pub enum Lifted {
-    Over,
-    Fits(Part),
 }
 
 // Where a link leads on the disk. Nowhere else is a link's place turned into one of the disk.
@@ -71,62 +56,149 @@ pub fn place(base: DiskLba, rel: LinkLba) -> u64
     base.0 as u64 + rel.0 as u64
 }
 
+// The link to a place on the disk, the inverse of `place`: 0 where that is not behind the base. Nowhere else is one of the disk turned into a link's.
+pub fn link_of(base: DiskLba, at: DiskLba) -> LinkLba
+    ensures { λ r. ⌜ r .0 ≡ at .0 - base .0 ⌝ }
+{
+    if at.0 < base.0 {
+        return LinkLba(0);
+    }
+    LinkLba(at.0 - base.0)
+}
+
+// The EBR of record number i: signature 3, flags 4.
+fn open_record(x: &[u8], n: usize, i: usize) -> Met
+    requires { ⌜ (n ≡ count (now x)) × Good (now x) ⌝ }
+    requires { ⌜ i < n ⌝ }
+    ensures { λ o. ⌜ metSaid o ≡ answer (ebrChecks (recordAt (now (x .entry)) i)) (endsOf (entriesOf (recordAt (now (x .entry)) i))) ⌝ }
+    ensures { λ o. ⌜ MetAt (now (x .entry)) (lbaAt (now (x .entry)) i) o ⌝ }
+{
+    let r = extract::record_at(x, n, i);
+    match ebr::open(r) {
+        Opened::Shut(k) => Met::Shut(k),
+        Opened::Ebr(e) => {
+            let start = e.partition_1.starting_lba;
+            let link = e.partition_2.starting_lba;
+            Met::Ebr(Head {
+                number: i,
+                start: start,
+                link: LinkLba(link),
+            })
+        }
+    }
+}
+
 // The EBR at a link's place: at or past the end 2, signature 3, flags 4. A sector without a record is blank: 3.
-fn open_at(x: &[u8], n: usize, d: u32, base: DiskLba, rel: LinkLba) -> Opened
+fn open_at(x: &[u8], n: usize, d: u32, base: DiskLba, rel: LinkLba) -> Met
     requires { ⌜ (n ≡ count (now x)) × Good (now x) ⌝ }
     requires { ⌜ d ≡ diskSectors (now x) ⌝ }
-    ensures { λ o. ⌜ opened o ≡ shown (view (diskOf (now (x .entry))) (base .0 + rel .0)) ⌝ }
+    ensures { λ o. ⌜ metSaid o ≡ endsSaid (view (diskOf (now (x .entry))) (base .0 + rel .0)) ⌝ }
+    ensures { λ o. ⌜ MetAt (now (x .entry)) (base .0 + rel .0) o ⌝ }
 {
     let a = place(base, rel);
     if d as u64 <= a {
-        return Opened::Shut(2);
+        return Met::Shut(2);
     }
-    let r = extract::record_of(x, n, a as u32);
-    if r.len() == 0 {
-        return Opened::Shut(3);
-    }
-    ebr::open(r)
-}
-
-fn part_of(e: MBRPartitionEntry, a: u32, way: Way) -> Part
-    requires { ⌜ e .«starting_lba» + a < 2 ^ 32 ⌝ }
-    ensures { λ r. ⌜ r ≡ partOf e a way ⌝ }
-{
-    let mut p = e;
-    p.starting_lba = e.starting_lba + a;
-    let sectors = way.sectors;
-    let first = way.first;
-    let last = way.last;
-    Part {
-        partition: p,
-        absolute_ebr_lba: DiskLba(a),
-        ebr_sectors: sectors,
-        ebr_first_chs: first,
-        ebr_last_chs: last,
+    match extract::seek(x, n, a as u32) {
+        Spot::Absent(_) => Met::Shut(3),
+        Spot::Found(i) => open_record(x, n, i),
     }
 }
 
-// The entry of the EBR at a link's place, its start counted from the disk's.
-fn lift(e: MBRPartitionEntry, base: DiskLba, rel: LinkLba, way: Way) -> Lifted
-    ensures { λ r. ⌜ r ≡ lifted e (base .0 + rel .0) way ⌝ }
+fn refuse(k: u8) -> Counted
+    ensures { λ r. ⌜ r ≡ counted 0 (refuses k) ⌝ }
 {
+    Counted {
+        answer: Outcome::Refused(Refusal { number: k }),
+        count: 0,
+    }
+}
+
+// One EBR, already opened, and what follows it: at most `left` EBRs. Their record numbers stand in `found` behind those of the EBRs before.
+fn ebr_step(
+    x: &[u8],
+    n: usize,
+    d: u32,
+    base: DiskLba,
+    rel: LinkLba,
+    h: Head,
+    left: usize,
+    found: &mut [usize],
+) -> Counted
+    requires { ⌜ (n ≡ count (now x)) × Good (now x) ⌝ }
+    requires { ⌜ d ≡ diskSectors (now x) ⌝ }
+    requires { ⌜ HeadAt (now x) (base .0 + rel .0) h ⌝ }
+    requires { ⌜ (left ≤ 24) × (length (now found) ≡ 24) ⌝ }
+    ensures { λ r. ⌜ r ≡ counted (24 - left) (places (view (diskOf (now (x .entry)))) (base .0) left (rel .0) (headEnds h)) ⌝ }
+    ensures { λ r. ⌜ NotedAll (now (x .entry)) (drop (24 - left) (now (found .exit))) (places (view (diskOf (now (x .entry)))) (base .0) left (rel .0) (headEnds h)) ⌝ }
+{
+    if left == 0 {
+        return refuse(6);
+    }
     let a = place(base, rel);
-    if e.starting_lba as u64 + a < 4294967296 {
-        Lifted::Fits(part_of(e, a as u32, way))
-    } else {
-        Lifted::Over
+    if 4294967296 <= h.start as u64 + a {
+        return refuse(7);
+    }
+    let link = h.link;
+    let r = link_step(x, n, d, base, rel, link, left - 1, found);
+    found[LOGICALS - left] = h.number;
+    r
+}
+
+// What follows an EBR: an end, or a link and a chain.
+fn link_step(
+    x: &[u8],
+    n: usize,
+    d: u32,
+    base: DiskLba,
+    rel: LinkLba,
+    link: LinkLba,
+    left: usize,
+    found: &mut [usize],
+) -> Counted
+    requires { ⌜ (n ≡ count (now x)) × Good (now x) ⌝ }
+    requires { ⌜ d ≡ diskSectors (now x) ⌝ }
+    requires { ⌜ (left ≤ 24) × (length (now found) ≡ 24) ⌝ }
+    ensures { λ r. ⌜ r ≡ counted (24 - left) (onwards (placesFrom (view (diskOf (now (x .entry)))) (base .0) left) (rel .0) (link .0)) ⌝ }
+    ensures { λ r. ⌜ NotedAll (now (x .entry)) (drop (24 - left) (now (found .exit))) (onwards (placesFrom (view (diskOf (now (x .entry)))) (base .0) left) (rel .0) (link .0)) ⌝ }
+{
+    if link.0 == 0 {
+        return Counted {
+            answer: Outcome::Done,
+            count: LOGICALS - left,
+        };
+    }
+    if link.0 <= rel.0 {
+        return refuse(5);
+    }
+    match open_at(x, n, d, base, link) {
+        Met::Shut(k) => refuse(k),
+        Met::Ebr(h) => ebr_step(x, n, d, base, link, h, left, found),
     }
 }
 
-fn add(c: Chain, p: Part) -> Chain
-    requires { ⌜ c .count < 24 ⌝ }
-    ensures { λ r. ⌜ r ≡ added c p ⌝ }
+// The chain of an extended partition. If its first EBR fails there are no logical partitions and no refusal.
+pub fn read_chain(
+    x: &[u8],
+    n: usize,
+    d: u32,
+    extended: MBRPartitionEntry,
+    found: &mut [usize],
+) -> Counted
+    requires { ⌜ (n ≡ count (now x)) × Good (now x) ⌝ }
+    requires { ⌜ d ≡ diskSectors (now x) ⌝ }
+    requires { ⌜ length (now found) ≡ 24 ⌝ }
+    ensures { λ r. ⌜ r ≡ counted 0 (placesOf (logicalsOf (view (diskOf (now (x .entry)))) (some extended))) ⌝ }
+    ensures { λ r. ⌜ NotedAll (now (x .entry)) (now (found .exit)) (placesOf (logicalsOf (view (diskOf (now (x .entry)))) (some extended))) ⌝ }
 {
-    let n = c.count;
-    let mut b = c;
-    b.parts[n] = p;
-    b.count = n + 1;
-    b
+    let base = DiskLba(extended.starting_lba);
+    match open_at(x, n, d, base, LinkLba(0)) {
+        Met::Shut(_) => Counted {
+            answer: Outcome::Done,
+            count: 0,
+        },
+        Met::Ebr(h) => ebr_step(x, n, d, base, LinkLba(0), h, LOGICALS, found),
+    }
 }
 
 // The way that a link entry gives.
@@ -142,188 +214,93 @@ fn way_of(link: MBRPartitionEntry) -> Way
     }
 }
 
-// A chain of no parts.
-fn empty() -> Chain
-    ensures { λ r. ⌜ r ≡ noChain ⌝ }
-{
-    let none = MBRPartitionEntry::empty();
-    let zero = none.first_chs;
-    let p = Part {
-        partition: none,
-        absolute_ebr_lba: DiskLba(0),
-        ebr_sectors: MaybeSectors::Absent,
-        ebr_first_chs: zero,
-        ebr_last_chs: MaybeChs::Absent,
-    };
-    let parts = [p; LOGICALS];
-    Chain {
-        parts: parts,
-        count: 0,
-    }
-}
-
-fn refuse(k: u8) -> ChainRead
-    ensures { λ r. ⌜ r ≡ stepped noChain (refuses k) ⌝ }
-{
-    ChainRead {
-        answer: Outcome::Refused(Refusal { number: k }),
-        chain: empty(),
-    }
-}
-
-// One EBR, already opened, and what follows it: at most `left` EBRs.
-fn ebr_step(
-    x: &[u8],
-    n: usize,
-    d: u32,
-    base: DiskLba,
-    rel: LinkLba,
-    way: Way,
-    e: Entries,
-    left: usize,
-    c: Chain,
-) -> ChainRead
+// The way to number j of the EBRs found: the first has no link.
+fn way_to(x: &[u8], n: usize, found: &[usize], j: usize, extended: MBRPartitionEntry) -> Way
     requires { ⌜ (n ≡ count (now x)) × Good (now x) ⌝ }
-    requires { ⌜ d ≡ diskSectors (now x) ⌝ }
-    requires { ⌜ c .count + left ≤ 24 ⌝ }
-    ensures { λ r. ⌜ r ≡ stepped c (chain (view (diskOf (now (x .entry)))) (base .0) left (rel .0) (linkBy way) (bare e)) ⌝ }
+    requires { ⌜ (j < length (now found)) × Fits (now x) j (now found) ⌝ }
+    ensures { λ r. ⌜ linkBy r ≡ linkTo (now (x .entry)) (firstLink extended) (now (found .entry)) j ⌝ }
 {
-    if left == 0 {
-        return refuse(6);
-    }
-    let first = e.partition_1;
-    match lift(first, base, rel, way) {
-        Lifted::Over => refuse(7),
-        Lifted::Fits(p) => {
-            let longer = add(c, p);
-            let link = e.partition_2;
-            link_step(x, n, d, base, rel, link, left - 1, longer)
-        }
-    }
-}
-
-// What follows an EBR: an end, or a link and a chain.
-fn link_step(
-    x: &[u8],
-    n: usize,
-    d: u32,
-    base: DiskLba,
-    rel: LinkLba,
-    link: MBRPartitionEntry,
-    left: usize,
-    c: Chain,
-) -> ChainRead
-    requires { ⌜ (n ≡ count (now x)) × Good (now x) ⌝ }
-    requires { ⌜ d ≡ diskSectors (now x) ⌝ }
-    requires { ⌜ c .count + left ≤ 24 ⌝ }
-    ensures { λ r. ⌜ r ≡ stepped c (followOn (diskOf (now (x .entry))) (base .0) left (rel .0) link) ⌝ }
-{
-    let start = link.starting_lba;
-    if start == 0 {
-        return ChainRead {
-            answer: Outcome::Done,
-            chain: c,
+    if j == 0 {
+        let first = extended.first_chs;
+        return Way {
+            sectors: MaybeSectors::Absent,
+            first: first,
+            last: MaybeChs::Absent,
         };
     }
-    if start <= rel.0 {
-        return refuse(5);
-    }
-    match open_at(x, n, d, base, LinkLba(start)) {
-        Opened::Shut(k) => refuse(k),
-        Opened::Ebr(e) => {
-            let way = way_of(link);
-            ebr_step(x, n, d, base, LinkLba(start), way, e, left, c)
-        }
-    }
+    let r = extract::record_at(x, n, found[j - 1]);
+    let link = entry::read(r, 462);
+    way_of(link)
 }
 
-// The chain of an extended partition. If its first EBR fails there are no logical partitions and no refusal.
-pub fn read_chain(x: &[u8], n: usize, d: u32, extended: MBRPartitionEntry) -> ChainRead
+// The entry of the partition of record number i, its start counted from the disk's.
+pub fn part_at(x: &[u8], n: usize, i: usize) -> MBRPartitionEntry
     requires { ⌜ (n ≡ count (now x)) × Good (now x) ⌝ }
-    requires { ⌜ d ≡ diskSectors (now x) ⌝ }
-    ensures { λ r. ⌜ r ≡ stepped noChain (logicalsOf (view (diskOf (now (x .entry)))) (some extended)) ⌝ }
+    requires { ⌜ Fit (now x) i ⌝ }
+    ensures { λ r. ⌜ r ≡ partIn (now (x .entry)) i ⌝ }
 {
-    let base = DiskLba(extended.starting_lba);
-    match open_at(x, n, d, base, LinkLba(0)) {
-        Opened::Shut(_) => ChainRead {
-            answer: Outcome::Done,
-            chain: empty(),
-        },
-        Opened::Ebr(e) => {
-            let first = extended.first_chs;
-            let way = Way {
-                sectors: MaybeSectors::Absent,
-                first: first,
-                last: MaybeChs::Absent,
-            };
-            ebr_step(x, n, d, base, LinkLba(0), way, e, LOGICALS, empty())
-        }
-    }
+    let a = extract::lba_at(x, n, i);
+    let r = extract::record_at(x, n, i);
+    let mut p = entry::read(r, 446);
+    p.starting_lba = p.starting_lba + a;
+    p
 }
 
-// What the EBR at a sector carries beside its entries. A sector without a record is blank.
-fn kept_at(x: &[u8], n: usize, a: u32) -> Kept
+// The logical partition of record number i.
+fn lift(x: &[u8], n: usize, i: usize, way: Way) -> LogicalPartition
     requires { ⌜ (n ≡ count (now x)) × Good (now x) ⌝ }
-    ensures { λ r. ⌜ r ≡ keptOf (diskOf (now (x .entry)) .sector a) ⌝ }
+    requires { ⌜ Fit (now x) i ⌝ }
+    ensures { λ r. ⌜ r ≡ lifted (now (x .entry)) (linkBy way) i ⌝ }
 {
-    let r = extract::record_of(x, n, a);
-    if r.len() == 0 {
-        return Kept::empty();
-    }
-    ebr::kept_of(r)
-}
-
-// The logical partition of a part.
-fn whole(x: &[u8], n: usize, p: Part) -> LogicalPartition
-    requires { ⌜ (n ≡ count (now x)) × Good (now x) ⌝ }
-    ensures { λ r. ⌜ r ≡ thick (diskOf (now (x .entry))) p ⌝ }
-{
-    let kept = kept_at(x, n, p.absolute_ebr_lba.0);
-    let partition = p.partition;
-    let place = p.absolute_ebr_lba;
-    let sectors = p.ebr_sectors;
-    let first = p.ebr_first_chs;
-    let last = p.ebr_last_chs;
+    let p = part_at(x, n, i);
+    let a = extract::lba_at(x, n, i);
+    let r = extract::record_at(x, n, i);
+    let sectors = way.sectors;
+    let first = way.first;
+    let last = way.last;
     LogicalPartition {
-        partition: partition,
-        absolute_ebr_lba: place,
+        partition: p,
+        absolute_ebr_lba: DiskLba(a),
         ebr_sectors: sectors,
         ebr_first_chs: first,
         ebr_last_chs: last,
-        kept: kept,
+        kept: ebr::kept_of(r),
     }
 }
 
-// The parts of a chain with the code of their EBRs, in slots.
-fn attach(x: &[u8], n: usize, c: Chain) -> [LogicalPartition; LOGICALS]
+// The logical partition of number j of the EBRs found.
+fn logical_at(
+    x: &[u8],
+    n: usize,
+    found: &[usize],
+    j: usize,
+    extended: MBRPartitionEntry,
+) -> LogicalPartition
     requires { ⌜ (n ≡ count (now x)) × Good (now x) ⌝ }
-    requires { ⌜ c .count ≤ 24 ⌝ }
-    ensures { λ r. ⌜ r ≡ slots (map (thick (diskOf (now (x .entry)))) (take (c .count) (c .parts))) ⌝ }
+    requires { ⌜ (j < length (now found)) × Fits (now x) (j + 1) (now found) ⌝ }
+    ensures { λ r. ⌜ r ≡ lifted (now (x .entry)) (linkTo (now (x .entry)) (firstLink extended) (now (found .entry)) j) (getD (now (found .entry)) j 0) ⌝ }
+{
+    let way = way_to(x, n, found, j, extended);
+    lift(x, n, found[j], way)
+}
+
+// The logical partitions of the first m records found, in slots.
+pub fn attach(
+    x: &[u8],
+    n: usize,
+    found: &[usize],
+    m: usize,
+    extended: MBRPartitionEntry,
+) -> [LogicalPartition; LOGICALS]
+    requires { ⌜ (n ≡ count (now x)) × Good (now x) ⌝ }
+    requires { ⌜ (m ≤ 24) × (length (now found) ≡ 24) × Fits (now x) m (now found) ⌝ }
+    ensures { λ r. ⌜ r ≡ slots (take m (rebuilt (now (x .entry)) (firstLink extended) (now (found .entry)))) ⌝ }
 {
     let none = LogicalPartition::empty();
     let mut ls = [none; LOGICALS];
-    let m = c.count;
-    for i in 0..m {
-        let p = c.parts[i];
-        let l = whole(x, n, p);
-        ls[i] = l;
+    for j in 0..m {
+        let l = logical_at(x, n, found, j, extended);
+        ls[j] = l;
     }
     ls
-}
-
-// The logical partitions of an extended partition.
-pub fn read_logicals(x: &[u8], n: usize, d: u32, extended: MBRPartitionEntry) -> Logicals
-    requires { ⌜ (n ≡ count (now x)) × Good (now x) ⌝ }
-    requires { ⌜ d ≡ diskSectors (now x) ⌝ }
-    ensures { λ r. ⌜ r ≡ told (logicalsOf (view (diskOf (now (x .entry)))) (some extended)) ⌝ }
-{
-    let r = read_chain(x, n, d, extended);
-    let c = r.chain;
-    let answer = r.answer;
-    let ls = attach(x, n, c);
-    Logicals {
-        answer: answer,
-        logicals: ls,
-        count: c.count,
-    }
 }

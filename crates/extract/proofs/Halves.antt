@@ -64,20 +64,12 @@ absent-is x other a p below above = record-none x other a 0 (count x) go
     go : (j : ℕ) → 0 ≤ j → j < 0 + count x → a ≡ lbaAt x j → ⊥
     go j q r e = elim (decLt j p) [ yes l ↦ omega (arith, below j l) | no l ↦ omega (arith, above j (omega arith) (omega arith)) ]
 
--- number i of the n LBAs of an extract
-pub record Held (x : List ℕ) (n a i : ℕ) : Type 0 where
-  pub few : n ≤ 64
-  pub long : length x ≡ 24 + n * 516
-  pub inside : i < n
-  pub is : lbaAt x i ≡ a
-
--- its record as the part that is answered
-pub found-part : (x : List ℕ) → Good x → (n a i : ℕ) → n ≡ count x → Held x n a i
-    → take (24 + n * 4 + i * 512 + 512 - (24 + n * 4 + i * 512)) (drop (24 + n * 4 + i * 512) x) ≡ recordOf x a
+-- record number i as the part that is answered
+pub part-record : (x : List ℕ) (n i : ℕ) → n ≡ count x → take (24 + n * 4 + i * 512 + 512 - (24 + n * 4 + i * 512)) (drop (24 + n * 4 + i * 512) x) ≡ recordAt x i
 unfolding recordAt
-found-part x g n a i e h =
+part-record x n i e =
     let z : 24 + n * 4 + i * 512 + 512 - (24 + n * 4 + i * 512) ≡ 512 = omega arith in
-    rw (z, e) (sym (found-is x [] g a i (omega arith) (h .is)))
+    rw (z, e)
 
 -- there is one answer
 pub spot-unique : (x : List ℕ) → Good x → (a : ℕ) (r q : Spot) → SpotOf x (count x) a r → SpotOf x (count x) a q → r ≡ q

@@ -2,7 +2,7 @@
 ghost use mathlib.Core.Path.{_≡_};
 ghost use Prim.Native.Nat.{ℕ, _+_, _*_, _≤_, _<_};
 ghost use lib.ListN.{length};
-ghost use Rattle.extract.specs.Extract.{Good, word, count, sizeOk, lbasFrom, headerChecks, lbaChecks, recordOf, lookedUp};
+ghost use Rattle.extract.specs.Extract.{Good, word, count, sizeOk, lbasFrom, lbaAt, headerChecks, lbaChecks, recordAt, recordOf, lookedUp};
 ghost use Rattle.base.specs.Bytes.{Bytes};
 ghost use Rattle.base.specs.Checks.{first-fail};
 ghost use Rattle.extract.specs.Spot.{SpotOf};
@@ -177,6 +177,25 @@ pub fn seek(x: &[u8], n: usize, lba: u32) -> Spot
     Spot::Absent(lo)
 }
 
+// LBA number i of a checked extract.
+pub fn lba_at(x: &[u8], n: usize, i: usize) -> u32
+    requires { ⌜ (n ≡ count (now x)) × Good (now x) ⌝ }
+    requires { ⌜ i < n ⌝ }
+    ensures { λ r. ⌜ r ≡ lbaAt (now (x .entry)) i ⌝ }
+{
+    word_at(x, 24 + i * 4)
+}
+
+// Record number i of a checked extract, as a part of it.
+pub fn record_at<'a>(x: &'a [u8], n: usize, i: usize) -> &'a [u8]
+    requires { ⌜ (n ≡ count (now x)) × Good (now x) ⌝ }
+    requires { ⌜ i < n ⌝ }
+    ensures { λ r. ⌜ now r ≡ recordAt (now (x .entry)) i ⌝ }
+{
+    let at = 24 + n * 4 + i * 512;
+    &x[at..at + 512]
+}
+
 // The record at an LBA of a checked extract, as a part of it; empty if there is none.
 pub fn record_of<'a>(x: &'a [u8], n: usize, lba: u32) -> &'a [u8]
     requires { ⌜ (n ≡ count (now x)) × Good (now x) ⌝ }
@@ -184,10 +203,7 @@ pub fn record_of<'a>(x: &'a [u8], n: usize, lba: u32) -> &'a [u8]
 {
     match seek(x, n, lba) {
         Spot::Absent(_) => &x[0..0],
-        Spot::Found(i) => {
-            let at = 24 + n * 4 + i * 512;
-            &x[at..at + 512]
-        }
+        Spot::Found(i) => record_at(x, n, i),
     }
 }
 

@@ -3,7 +3,7 @@ use mathlib.Core.Path.{_≡_, refl, ap, sym, subst, _∙_}
 use mathlib.Core.Option.{Option, none, some}
 use mathlib.Core.Bool.{Bool, true, false}
 use mathlib.Core.List.{List, [], _∷_, _++_}
-use Prim.Native.Nat.{ℕ, _<_}
+use Prim.Native.Nat.{ℕ, _≤_, _<_}
 use native.Mathlib.Omega.{arith}
 use lib.Dec.{ltb}
 use borrow.Author.Tests.{ltb-true, lt-ltb}
@@ -15,13 +15,17 @@ use Rattle.entry.specs.declared.MBRPartitionEntry.{MBRPartitionEntry}
 use Rattle.mbr.specs.declared.MBRHeader.{MBRHeader}
 use Rattle.mbr.specs.Mbr.{mbrOf, headerChecks, primaries, extendedOf}
 use Rattle.extract.specs.Disk.{Disk}
+use Rattle.extract.specs.declared.Extract.{Extract}
+use Rattle.extract.specs.Extract.{diskOf}
+use Rattle.extract.specs.Answers.{checkSays}
 use Rattle.table.specs.declared.LogicalPartition.{LogicalPartition}
 use Rattle.table.specs.Table.{parts}
 use Rattle.chain.specs.Chain.{view, logicalsOf}
 use Rattle.chain.specs.Facts.{seen, Holds}
 use Rattle.chain.proofs.Rows.{holds→logicals, logicals→holds}
+use Rattle.chain.proofs.Slots.{holds-few}
 use Rattle.align.specs.Align.{usedStarts, alignment}
-use Rattle.read.specs.Read.{Table, headerOn, withChain, read}
+use Rattle.read.specs.Read.{Table, headerOn, withChain, read, readSays, tableOf, noTable, tableFor}
 use Rattle.read.specs.Facts.{Reads}
 
 -- a header that is read: sector 0 is on the disk, its signature and flags are right, and its bytes say it
@@ -74,3 +78,21 @@ read→reads d t e = top (headerOn d) refl e
     top : (s : Said MBRHeader) → headerOn d ≡ s → andThen s (withChain d) ≡ gives t → Reads d t
     top (refuses k) q c = let z : _≡_ {A = ℕ} 0 1 = cc in absurd (omega arith)
     top (gives h) q c = body h q (logicalsOf (view d) (extendedOf (primaries h))) refl c
+
+none-few : (k : ℕ) → tableFor (refuses k) .count ≤ 24
+unfolding tableOf noTable
+none-few k = omega arith
+
+-- a table that is read has at most 24 logical partitions
+read-few : (x : List ℕ) (s : Said Table) → read (diskOf x) ≡ s → tableFor s .count ≤ 24
+unfolding tableOf noTable
+read-few x (gives t) h = holds-few (seen (diskOf x)) (extendedOf (primaries (t .header))) (t .logicals) (read→reads (diskOf x) t h .holds)
+read-few x (refuses k) h = none-few k
+
+pub says-few : (x : List ℕ) → tableFor (readSays x) .count ≤ 24
+unfolding readSays
+says-few x = go (checkSays x)
+  where
+    go : (s : Said Extract) → tableFor (andThen s (λ e. read (diskOf x))) .count ≤ 24
+    go (gives e) = read-few x (read (diskOf x)) refl
+    go (refuses k) = none-few k

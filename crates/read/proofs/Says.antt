@@ -7,8 +7,8 @@ use Prim.Native.Nat.{ℕ, zero, suc, _+_, _-_, _≤_, _<_}
 use native.Mathlib.Omega.{arith}
 use native.Mathlib.Numerals.{add-one}
 use lib.Dec.{eqb, ltb}
-use lib.ListN.{length, getD, take, replicate}
-use lib.Seq.{take-at, take-suc}
+use lib.ListN.{length, getD, take, set, replicate, length-set}
+use lib.Seq.{take-at, take-suc, take-suc-set, length-take-le}
 use borrow.Author.Tests.{eq-eqb, lt-ltb, le-ltb}
 use Rattle.base.specs.Said.{Said, gives, refuses, andThen, failure, valueOr, refusal}
 use Rattle.base.specs.Checks.{_!_, checked, answer, first-fail}
@@ -28,17 +28,16 @@ use Rattle.extract.specs.declared.Outcome.{Outcome}
 use Rattle.extract.specs.declared.Outcome.the-variants as outcome
 use Rattle.extract.proofs.Disk.{size-of, width-of, found-sector, absent-sector}
 use Rattle.table.specs.declared.LogicalPartition.{LogicalPartition}
-use Rattle.table.specs.Table.{most, parts, slots, noLogical, emptySlot}
+use Rattle.table.specs.Table.{most, parts, slots, emptySlot}
 use Rattle.chain.specs.Chain.{view, logicalsOf}
-use Rattle.chain.specs.Facts.{seen}
-use Rattle.chain.specs.Thin.{told}
-use Rattle.chain.specs.declared.Logicals.{Logicals}
-use Rattle.chain.proofs.Rows.{logicals→holds}
-use Rattle.chain.proofs.Slots.{holds-few}
-use Rattle.align.specs.Align.{usedStarts, alignment}
-use Rattle.align.proofs.Laws.{starts-append}
+use Rattle.chain.specs.Walk.{Logicals, firstOf, partIn, rebuilt, told}
+use Rattle.chain.specs.declared.Counted.{Counted}
+use Rattle.chain.proofs.Slots.{rebuilt-long, rebuilt-parts, readAs}
+use Rattle.align.specs.declared.Starts.{Starts}
+use Rattle.align.specs.Align.{usedStarts, alignment, startsIn}
+use Rattle.align.proofs.Laws.{starts-append, starts-used, starts-unused}
 use Rattle.read.specs.Read.{Table, headerOn, withChain, read, readSays, headerSays, tableOf, noTable, tableFor}
-use Rattle.read.specs.Answers.{headerTold, tableTold, finished, startsRead}
+use Rattle.read.specs.Answers.{headerTold, tableTold, finished, startsFound}
 use Rattle.read.specs.declared.HeaderRead.{HeaderRead}
 use Rattle.read.specs.declared.ReadAnswer.{ReadAnswer}
 
@@ -151,7 +150,7 @@ unfolding slots
 slots-taken ls = take-at ls (replicate (most - length ls) emptySlot) (length ls) refl
 
 last-table : (d : Disk) (h : MBRHeader) (ls : List LogicalPartition) (a : ℕ)
-    → finished (d .width) (d .size) h (told (gives ls)) (gives a) ≡ tableTold (gives (record { width = d .width; size = d .size; header = h; logicals = ls; align = a }))
+    → finished (d .width) (d .size) h (slots ls) (length ls) (gives a) ≡ tableTold (gives (record { width = d .width; size = d .size; header = h; logicals = ls; align = a }))
 unfolding tableOf
 last-table d h ls a = refl
 
@@ -174,35 +173,28 @@ module _ (d : Disk) (h : MBRHeader) (l : Logicals) (e : l ≡ told (logicalsOf (
           let w : k ≡ r .number = cc in
           ap refuses (sym w)
 
-  few-said : (s : Said (List LogicalPartition)) → logicalsOf (view d) (extendedOf (primaries h)) ≡ s → told s .count ≤ 24
-  few-said (gives ls) q = holds-few (seen d) (extendedOf (primaries h)) ls (logicals→holds (view d) (extendedOf (primaries h)) ls q)
-  few-said (refuses k) q = omega arith
-
-  pub chain-few : l .count ≤ 24
-  chain-few = rw e (few-said (logicalsOf (view d) (extendedOf (primaries h))) refl)
-
   pub chain-given : l .answer ≡ outcome.Done
-      → finished (d .width) (d .size) h l (alignment (startsRead h (l .logicals) (l .count))) ≡ tableTold (withChain d h)
+      → finished (d .width) (d .size) h (l .logicals) (l .count) (alignment (usedStarts (primaries h ++ parts (take (l .count) (l .logicals))))) ≡ tableTold (withChain d h)
   unfolding withChain
-  chain-given q = go (logicalsOf (view d) (extendedOf (primaries h))) refl e
+  chain-given q = go (logicalsOf (view d) (extendedOf (primaries h))) e
     where
       f : List LogicalPartition → Said Table
       f ls = andThen (alignment (usedStarts (primaries h ++ parts ls))) (λ a. gives (record { width = d .width; size = d .size; header = h; logicals = ls; align = a }))
 
       last : (ls : List LogicalPartition) (s : Said ℕ)
-          → finished (d .width) (d .size) h (told (gives ls)) s ≡ tableTold (andThen s (λ a. gives (record { width = d .width; size = d .size; header = h; logicals = ls; align = a })))
+          → finished (d .width) (d .size) h (slots ls) (length ls) s ≡ tableTold (andThen s (λ a. gives (record { width = d .width; size = d .size; header = h; logicals = ls; align = a })))
       last ls (gives a) = last-table d h ls a
       last ls (refuses k) = refl
 
-      go : (s : Said (List LogicalPartition)) → logicalsOf (view d) (extendedOf (primaries h)) ≡ s → l ≡ told s
-          → finished (d .width) (d .size) h l (alignment (startsRead h (l .logicals) (l .count))) ≡ tableTold (andThen s f)
-      go (refuses k) z e =
+      go : (s : Said (List LogicalPartition)) → l ≡ told s
+          → finished (d .width) (d .size) h (l .logicals) (l .count) (alignment (usedStarts (primaries h ++ parts (take (l .count) (l .logicals))))) ≡ tableTold (andThen s f)
+      go (refuses k) e =
           let n : some k ≡ none = ap outcomeSaid (sym (ap (λ (y : Logicals). y .answer) e) ∙ q) in
           let w : _≡_ {A = ℕ} 0 1 = cc in
           absurd (omega arith)
-      go (gives ls) z e =
-          ap (λ (y : Logicals). finished (d .width) (d .size) h y (alignment (startsRead h (y .logicals) (y .count)))) e
-          ∙ ap (λ (y : List LogicalPartition). finished (d .width) (d .size) h (told (gives ls)) (alignment (usedStarts (primaries h ++ parts y)))) (slots-taken ls)
+      go (gives ls) e =
+          ap (λ (y : Logicals). finished (d .width) (d .size) h (y .logicals) (y .count) (alignment (usedStarts (primaries h ++ parts (take (y .count) (y .logicals)))))) e
+          ∙ ap (λ (y : List LogicalPartition). finished (d .width) (d .size) h (slots ls) (length ls) (alignment (usedStarts (primaries h ++ parts y)))) (slots-taken ls)
           ∙ last ls (alignment (usedStarts (primaries h ++ parts ls)))
 
 -- the used starts
@@ -214,29 +206,53 @@ primary-starts one two three four =
     ∙ ap (λ (z : List ℕ). z ++ usedStarts (four ∷ []))
     (starts-append (one ∷ two ∷ []) (three ∷ []) ∙ ap (λ (z : List ℕ). z ++ usedStarts (three ∷ [])) (starts-append (one ∷ []) (two ∷ []))))
 
-pub starts-none : (s : List ℕ) (ls : List LogicalPartition) → s ≡ s ++ usedStarts (parts (take 0 ls))
+pub starts-none : (s : List ℕ) (x is : List ℕ) → s ≡ s ++ usedStarts (map (partIn x) (take 0 is))
 unfolding usedStarts
-starts-none s ls = sym (append-nil s)
+starts-none s x is = sym (append-nil s)
 
-pub starts-more : (s : List ℕ) (ls : List LogicalPartition) (i : ℕ) → i < length ls
-    → s ++ usedStarts (parts (take i ls)) ++ usedStarts (getD ls i noLogical .partition ∷ []) ≡ s ++ usedStarts (parts (take (i + 1) ls))
-starts-more s ls i b =
-    let p = getD ls i noLogical in
-    let t : take (i + 1) ls ≡ take i ls ++ (p ∷ []) = ap (λ (k : ℕ). take k ls) (add-one i) ∙ take-suc ls i noLogical b in
-    let m : parts (take (i + 1) ls) ≡ parts (take i ls) ++ (p .partition ∷ []) = ap parts t ∙ map-append (λ (l : LogicalPartition). l .partition) (take i ls) (p ∷ []) in
-    append-assoc s (usedStarts (parts (take i ls))) (usedStarts (p .partition ∷ []))
-    ∙ ap (λ (z : List ℕ). s ++ z) (sym (starts-append (parts (take i ls)) (p .partition ∷ [])))
+pub starts-more : (s : List ℕ) (x is : List ℕ) (i : ℕ) → i < length is
+    → s ++ usedStarts (map (partIn x) (take i is)) ++ usedStarts (partIn x (getD is i 0) ∷ []) ≡ s ++ usedStarts (map (partIn x) (take (i + 1) is))
+starts-more s x is i b =
+    let p = partIn x (getD is i 0) in
+    let es = map (partIn x) (take i is) in
+    let t : take (i + 1) is ≡ take i is ++ (getD is i 0 ∷ []) = ap (λ (k : ℕ). take k is) (add-one i) ∙ take-suc is i 0 b in
+    let m : map (partIn x) (take (i + 1) is) ≡ es ++ (p ∷ []) = ap (map (partIn x)) t ∙ map-append (partIn x) (take i is) (getD is i 0 ∷ []) in
+    append-assoc s (usedStarts es) (usedStarts (p ∷ []))
+    ∙ ap (λ (z : List ℕ). s ++ z) (sym (starts-append es (p ∷ [])))
     ∙ ap (λ (z : List MBRPartitionEntry). s ++ usedStarts z) (sym m)
 
-pub starts-all : (h : MBRHeader) (ls : List LogicalPartition) (n : ℕ) → usedStarts (primaries h) ++ usedStarts (parts (take n ls)) ≡ startsRead h ls n
-starts-all h ls n = sym (starts-append (primaries h) (parts (take n ls)))
+-- one more entry: its start behind the others, if it is used
+abbrev pub Grown : Starts → MBRPartitionEntry → Starts → Type 0
+Grown s e r = (startsIn r ≡ startsIn s ++ usedStarts (e ∷ [])) × ((r .count ≤ s .count + 1) × (length (r .at) ≡ length (s .at)))
+
+pub grown-used : (s : Starts) (e : MBRPartitionEntry) → s .count < length (s .at) → (e .sys ≡ 0 → ⊥)
+    → Grown s e (record { at = set (s .at) (s .count) (e .«starting_lba»); count = s .count + 1 })
+grown-used s e h u =
+    (rw (starts-used e u, add-one) (take-suc-set (s .at) (s .count) (e .«starting_lba») h), (omega arith, length-set (s .at) (s .count) (e .«starting_lba»)))
+
+pub grown-same : (s : Starts) (e : MBRPartitionEntry) → e .sys ≡ 0 → Grown s e s
+grown-same s e u = (sym (append-nil (startsIn s)) ∙ ap (λ (t : List ℕ). startsIn s ++ t) (sym (starts-unused e u)), (omega arith, refl))
+
+pub starts-all : (x : List ℕ) (h : MBRHeader) (is : List ℕ) (n : ℕ) → usedStarts (primaries h) ++ usedStarts (map (partIn x) (take n is)) ≡ startsFound x h is n
+starts-all x h is n = sym (starts-append (primaries h) (map (partIn x) (take n is)))
+
+-- the entries of the partitions in their slots
+parts-found : (x : List ℕ) (o : Option MBRPartitionEntry) (is : List ℕ) (m : ℕ) → m ≤ length is → map (partIn x) (take m is) ≡ parts (take m (slots (take m (rebuilt x (firstOf o) is))))
+parts-found x o is m h =
+    let L = take m (rebuilt x (firstOf o) is) in
+    let n : length L ≡ m = length-take-le m (rebuilt x (firstOf o) is) (omega (arith, rebuilt-long x (firstOf o) is)) in
+    sym (ap (λ (k : ℕ). parts (take k (slots L))) (sym n) ∙ ap parts (slots-taken L) ∙ rebuilt-parts x (firstOf o) is m)
 
 -- the same, with what the header of the extract says
-pub chain-table : (x : List ℕ) (y : Extract) (h : MBRHeader) (l : Logicals) → y ≡ headerOf x → l ≡ told (logicalsOf (view (diskOf x)) (extendedOf (primaries h)))
-    → l .answer ≡ outcome.Done
-    → finished (y .«sector_size») (y .«disk_size») h l (alignment (startsRead h (l .logicals) (l .count))) ≡ tableTold (withChain (diskOf x) h)
-chain-table x y h l p e q =
-    let s = alignment (startsRead h (l .logicals) (l .count)) in
-    ap (λ (z : Extract). finished (z .«sector_size») (z .«disk_size») h l s) p
-    ∙ (λ i. finished (sym (width-of x) i) (sym (size-of x) i) h l s)
-    ∙ chain-given (diskOf x) h l e q
+pub chain-table : (x : List ℕ) (y : Extract) (h : MBRHeader) (is : List ℕ) (c : Counted) → y ≡ headerOf x
+    → readAs x (extendedOf (primaries h)) is c ≡ told (logicalsOf (view (diskOf x)) (extendedOf (primaries h))) → c .count ≤ length is → c .answer ≡ outcome.Done
+    → finished (y .«sector_size») (y .«disk_size») h (slots (take (c .count) (rebuilt x (firstOf (extendedOf (primaries h))) is))) (c .count) (alignment (startsFound x h is (c .count)))
+    ≡ tableTold (withChain (diskOf x) h)
+chain-table x y h is c p e b q =
+    let o = extendedOf (primaries h) in
+    let ls = slots (take (c .count) (rebuilt x (firstOf o) is)) in
+    let s = alignment (startsFound x h is (c .count)) in
+    ap (λ (z : Extract). finished (z .«sector_size») (z .«disk_size») h ls (c .count) s) p
+    ∙ (λ i. finished (sym (width-of x) i) (sym (size-of x) i) h ls (c .count) s)
+    ∙ ap (λ (z : List MBRPartitionEntry). finished (diskOf x .width) (diskOf x .size) h ls (c .count) (alignment (usedStarts (primaries h ++ z)))) (parts-found x o is (c .count) b)
+    ∙ chain-given (diskOf x) h (readAs x o is c) e q

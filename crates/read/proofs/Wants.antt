@@ -26,7 +26,7 @@ use Rattle.extract.specs.Answers.{outcomeSaid}
 use Rattle.extract.proofs.Disk.{size-of, found-sector}
 use Rattle.table.specs.Table.{most}
 use Rattle.chain.specs.Chain.{view}
-use Rattle.chain.specs.Thin.{entriesIn, shown, bare}
+use Rattle.chain.specs.Walk.{entriesIn, shown}
 use Rattle.read.specs.Read.{Table, headerOn, read}
 use Rattle.read.specs.Answers.{headerTold}
 use Rattle.read.specs.declared.HeaderRead.{HeaderRead}

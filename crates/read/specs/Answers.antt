@@ -1,14 +1,13 @@
 -- What each answer of the crate says. Assumes nothing.
 use Prim.Native.Nat.{ℕ}
-use mathlib.Core.List.{List, [], _∷_, _++_}
+use mathlib.Core.List.{List, [], _∷_, _++_, map}
 use lib.ListN.{take}
 use Rattle.base.specs.Said.{Said, gives, refuses}
 use Rattle.mbr.specs.declared.MBRHeader.{MBRHeader}
 use Rattle.mbr.specs.Mbr.{primaries, noHeader}
 use Rattle.extract.specs.declared.Outcome.the-variants as outcome
 use Rattle.table.specs.declared.LogicalPartition.{LogicalPartition}
-use Rattle.table.specs.Table.{parts}
-use Rattle.chain.specs.declared.Logicals.{Logicals}
+use Rattle.chain.specs.Walk.{partIn}
 use Rattle.align.specs.Align.{usedStarts}
 use Rattle.read.specs.declared.HeaderRead.{HeaderRead}
 use Rattle.read.specs.declared.ReadAnswer.{ReadAnswer}
@@ -25,16 +24,16 @@ tableTold (gives t) = record { answer = outcome.Done; table = tableOf t }
 tableTold (refuses k) = record { answer = outcome.Refused (record { number = k }); table = noTable }
 
 -- the table of what was read, its alignment found or refused
-abbrev pub finished : ℕ → ℕ → MBRHeader → Logicals → Said ℕ → ReadAnswer
-finished w d h l (gives a) =
+abbrev pub finished : ℕ → ℕ → MBRHeader → List LogicalPartition → ℕ → Said ℕ → ReadAnswer
+finished w d h ls n (gives a) =
     record {
       answer = outcome.Done;
       table =
           record {
             «sector_size» = w;
             header = h;
-            «logical_partitions» = l .logicals;
-            count = l .count;
+            «logical_partitions» = ls;
+            count = n;
             align = a;
             cylinders = 0;
             heads = 0;
@@ -42,8 +41,8 @@ finished w d h l (gives a) =
             «disk_size» = d;
           };
     }
-finished w d h l (refuses k) = tableTold (refuses k)
+finished w d h ls n (refuses k) = tableTold (refuses k)
 
--- the starts of the used entries of what was read
-abbrev pub startsRead : MBRHeader → List LogicalPartition → ℕ → List ℕ
-startsRead h ls n = usedStarts (primaries h ++ parts (take n ls))
+-- the starts of the used entries of the header and of the partitions of the first n records of these numbers
+abbrev pub startsFound : List ℕ → MBRHeader → List ℕ → ℕ → List ℕ
+startsFound x h is n = usedStarts (primaries h ++ map (partIn x) (take n is))

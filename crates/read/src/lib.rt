@@ -2,9 +2,10 @@
 use align::Aligned;
 use align::Starts;
 use base::Answer;
-use chain::Logicals;
+use chain::Counted;
 use ebr::Entries;
 use ebr::Opened;
+use entry::MBRPartitionEntry;
 use extract::Extract;
 use extract::Header;
 use extract::Outcome;
@@ -25,14 +26,14 @@ ghost use Rattle.base.specs.Said.{gives, refuses, andThen, failure, valueOr};
 ghost use Rattle.mbr.specs.Mbr.{noHeader, primaries, extendedOf, found};
 ghost use Rattle.extract.specs.Extract.{Good, count, diskSectors, diskOf};
 ghost use Rattle.extract.specs.Answers.{outcomeSaid, headerOf};
-ghost use Rattle.table.specs.Table.{parts, slots};
-ghost use Rattle.chain.specs.Chain.{view, logicalsOf};
-ghost use Rattle.chain.specs.Thin.{told};
+ghost use Rattle.table.specs.Table.{slots};
+ghost use Rattle.chain.specs.Chain.{view, firstLink, logicalsOf};
+ghost use Rattle.chain.specs.Walk.{placesOf, counted, NotedAll, Fits, firstOf, rebuilt};
 ghost use Rattle.align.specs.Align.{usedStarts, alignment, startsIn};
 ghost use Rattle.read.specs.Read.{headerOn, withChain, read, readSays, headerSays, noTable, tableFor};
 ghost use Rattle.read.specs.Facts.{looked, chainLooks};
 ghost use Rattle.read.specs.Wanted.{firstAbsent, wantedSays, wantedSaid, onwardFrom, onwardSaid, looksFrom};
-ghost use Rattle.read.specs.Answers.{headerTold, tableTold, finished, startsRead};
+ghost use Rattle.read.specs.Answers.{headerTold, tableTold, finished, startsFound};
 
 // A header, or a refusal with an empty one.
 pub struct HeaderRead {
@@ -144,35 +145,48 @@ fn primary_starts(h: MBRHeader) -> Starts
     third.with(four)
 }
 
-// The used starts of the header and of n logical partitions.
-fn starts_of(h: MBRHeader, ls: [LogicalPartition; LOGICALS], n: usize) -> Starts
-    requires { ⌜ n ≤ 24 ⌝ }
-    ensures { λ r. ⌜ (startsIn r ≡ startsRead h ls n) × (r .count ≤ 28) ⌝ }
+// The used starts of the header and of the partitions of m records.
+fn starts_of(x: &[u8], n: usize, h: MBRHeader, ebrs: &[usize], m: usize) -> Starts
+    requires { ⌜ (n ≡ count (now x)) × Good (now x) ⌝ }
+    requires { ⌜ (m ≤ 24) × (length (now ebrs) ≡ 24) × Fits (now x) m (now ebrs) ⌝ }
+    ensures { λ r. ⌜ (startsIn r ≡ startsFound (now (x .entry)) h (now (ebrs .entry)) m) × (r .count ≤ 28) ⌝ }
 {
     let mut all = primary_starts(h);
-    for i in 0..n {
-        let l = ls[i];
-        let p = l.partition;
-        all = all.with(p);
+    for j in 0..m {
+        let p = chain::part_at(x, n, ebrs[j]);
+        if p.sys != 0 {
+            let k = all.count;
+            all.at[k] = p.starting_lba;
+            all.count = k + 1;
+        }
     }
     all
 }
 
-// The table of a header and its logical partitions: no alignment is 7.
-fn finish(e: Extract, header: MBRHeader, l: Logicals) -> ReadAnswer
-    requires { ⌜ l .count ≤ 24 ⌝ }
-    ensures { λ r. ⌜ r ≡ finished (e .«sector_size») (e .«disk_size») header l (alignment (startsRead header (l .logicals) (l .count))) ⌝ }
+// The table of a header and the logical partitions of m records: no alignment is 7.
+fn finish(
+    x: &[u8],
+    e: Extract,
+    header: MBRHeader,
+    first: MBRPartitionEntry,
+    ebrs: &[usize],
+    m: usize,
+) -> ReadAnswer
+    requires { ⌜ (e .count ≡ count (now x)) × Good (now x) ⌝ }
+    requires { ⌜ (m ≤ 24) × (length (now ebrs) ≡ 24) × Fits (now x) m (now ebrs) ⌝ }
+    ensures { λ r. ⌜ r ≡ finished (e .«sector_size») (e .«disk_size») header (slots (take m (rebuilt (now (x .entry)) (firstLink first) (now (ebrs .entry))))) m (alignment (startsFound (now (x .entry)) header (now (ebrs .entry)) m)) ⌝ }
 {
-    let ls = l.logicals;
-    let starts = starts_of(header, ls, l.count);
+    let n = e.count;
+    let starts = starts_of(x, n, header, ebrs, m);
     match starts.alignment() {
         Aligned::Refused(k) => no_table(k),
         Aligned::Align(a) => {
+            let ls = chain::attach(x, n, ebrs, m, first);
             let table = MBR {
                 sector_size: e.sector_size,
                 header: header,
                 logical_partitions: ls,
-                count: l.count,
+                count: m,
                 align: a,
                 cylinders: 0,
                 heads: 0,
@@ -187,23 +201,30 @@ fn finish(e: Extract, header: MBRHeader, l: Logicals) -> ReadAnswer
     }
 }
 
-// The logical partitions of the extended entry, if there is one.
-fn logicals_of(x: &[u8], n: usize, d: u32, extended: Found) -> Logicals
-    requires { ⌜ (n ≡ count (now x)) × Good (now x) ⌝ }
-    requires { ⌜ d ≡ diskSectors (now x) ⌝ }
-    ensures { λ r. ⌜ r ≡ told (logicalsOf (view (diskOf (now (x .entry)))) (found extended)) ⌝ }
+// The extended entry; an empty one if there is none.
+fn entry_of(extended: Found) -> MBRPartitionEntry
+    ensures { λ r. ⌜ firstLink r ≡ firstOf (found extended) ⌝ }
 {
     match extended {
-        Found::Nothing => {
-            let none = LogicalPartition::empty();
-            let slots = [none; LOGICALS];
-            Logicals {
-                answer: Outcome::Done,
-                logicals: slots,
-                count: 0,
-            }
-        }
-        Found::Entry(e) => chain::read_logicals(x, n, d, e),
+        Found::Nothing => MBRPartitionEntry::empty(),
+        Found::Entry(e) => e,
+    }
+}
+
+// The chain of the extended entry, if there is one.
+fn chain_of(x: &[u8], n: usize, d: u32, extended: Found, ebrs: &mut [usize]) -> Counted
+    requires { ⌜ (n ≡ count (now x)) × Good (now x) ⌝ }
+    requires { ⌜ d ≡ diskSectors (now x) ⌝ }
+    requires { ⌜ length (now ebrs) ≡ 24 ⌝ }
+    ensures { λ r. ⌜ r ≡ counted 0 (placesOf (logicalsOf (view (diskOf (now (x .entry)))) (found extended))) ⌝ }
+    ensures { λ r. ⌜ NotedAll (now (x .entry)) (now (ebrs .exit)) (placesOf (logicalsOf (view (diskOf (now (x .entry)))) (found extended))) ⌝ }
+{
+    match extended {
+        Found::Nothing => Counted {
+            answer: Outcome::Done,
+            count: 0,
+        },
+        Found::Entry(e) => chain::read_chain(x, n, d, e, ebrs),
     }
 }
 
@@ -213,11 +234,14 @@ fn with_chain(x: &[u8], e: Extract, header: MBRHeader) -> ReadAnswer
     ensures { λ r. ⌜ r ≡ tableTold (withChain (diskOf (now (x .entry))) header) ⌝ }
 {
     let extended = header.get_extended_partition();
-    let l = logicals_of(x, e.count, e.disk_size, extended);
-    let answer = l.answer;
+    let first = entry_of(extended);
+    let mut ebrs = [0usize; LOGICALS];
+    let c = chain_of(x, e.count, e.disk_size, extended, &mut ebrs);
+    let m = c.count;
+    let answer = c.answer;
     match answer {
         Outcome::Refused(r) => no_table(r.number),
-        Outcome::Done => finish(e, header, l),
+        Outcome::Done => finish(x, e, header, first, &ebrs, m),
     }
 }
 

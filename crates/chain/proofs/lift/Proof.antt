@@ -1,48 +1,32 @@
-use Rattle.chain.proofs.Steps.{lift-fits, lift-over}
-use Rattle.chain.specs.declared.Lifted.the-variants.{Over, Fits}
-use Rattle.chain.specs.declared.Lifted.{Lifted}
-use mathlib.Core.Path.{_≡_, sym, ap, _∙_}
-use Prim.Native.Nat.{_+_}
+use mathlib.Core.Path.{_≡_, refl, sym, ap, _∙_}
 use native.Mathlib.Omega.{arith}
+use lib.ListN.{length}
+use Rattle.extract.proofs.Disk.{record-at}
+use Rattle.chain.specs.Chain.{placed}
 use borrow.Author.Needs.{needs}
 use Rattle.chain.proofs.lift.Statement.{statement}
 use Rattle.chain.proofs.lift.Tie as tie
-use Rattle.chain.proofs.lift.Reads as reads
-use Rattle.chain.proofs.lift.Lts as lts
-use Rattle.chain.proofs.part_of.Reads as part-of-reads
-use Rattle.chain.proofs.place.Reads as place-reads
 
-place-requires : tie.Need-place-requires
-place-requires c κs = search needs
+part-at-requires : tie.Need-part-at-requires
+part-at-requires c κs = search needs
 
-cast-if1 : tie.Need-cast-if1
-cast-if1 c = search needs
+lba-at-requires : tie.Need-lba-at-requires
+lba-at-requires c κs = search needs
 
-add-if1 : tie.Need-add-if1
-add-if1 c = search needs
+record-at-requires : tie.Need-record-at-requires
+record-at-requires c κs = search needs
 
-cast-part-of : tie.Need-cast-part-of
-cast-part-of c = search needs
-
-part-of-requires : tie.Need-part-of-requires
-part-of-requires c κs = search needs
+kept-of-requires : tie.Need-kept-of-requires
+kept-of-requires c κs =
+    let s = c .before .before .before .before .before in
+    let l = record-at (s .args .x .now) (s .pre .0 .1) (s .args .i) (s .pre .1 .inside) .long in
+    omega (arith, ap length (c .before .record-at .ensures))
 
 returns : tie.Need-returns
-returns c =
-    let a = c .before .before .before .before .args in
-    let p = c .before .before .before .place .ensures in
-    let h = c .before .if1 .taken in
-    let q : c .before .before .before .place .result ≡ a .base .0 + a .rel .0 = p in
-    ap Fits (c .part-of .ensures) ∙ rw (← q) (lift-fits (a .e) (c .before .before .before .place .result) (a .way) (omega arith))
-
-returns-2 : tie.Need-returns-2
-returns-2 c =
-    let a = c .before .before .before .args in
-    let p = c .before .before .place .ensures in
-    let h = c .if1 .left in
-    lift-over (a .e) (a .base .0 + a .rel .0) (a .way) (omega arith)
+unfolding placed
+returns c = rw (c .kept-of .ensures, c .before .before .before .lba-at .ensures, c .before .before .before .before .part-at .ensures, c .before .before .record-at .ensures)
 
 pub lift-spec : {M : Type 1} → statement M
 lift-spec =
     tie.close
-    (tie.spec place-requires cast-if1 add-if1 cast-part-of part-of-requires returns returns-2)
+    (tie.spec part-at-requires lba-at-requires record-at-requires kept-of-requires returns)

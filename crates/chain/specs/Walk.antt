@@ -1,0 +1,151 @@
+-- What the chain steps carry: the places of EBRs and the numbers of their records, and the partitions made of them. Assumes nothing.
+use Prim.Native.Nat.{ℕ, zero, suc, _+_, _-_, _^_, _<_}
+use mathlib.Core.List.{List, [], _∷_, map}
+use mathlib.Core.Option.{Option, none, some}
+use mathlib.Core.Path.{_≡_}
+use lib.Dec.{eqb, ltb}
+use lib.ListN.{length, getD}
+use Rattle.base.specs.Pick.{pick}
+use Rattle.base.specs.Said.{Said, gives, refuses, andThen}
+use Rattle.entry.specs.declared.MBRPartitionEntry.{MBRPartitionEntry}
+use Rattle.entry.specs.Entry.{entryAt, noEntry}
+use Rattle.ebr.specs.declared.EBRHeader.{EBRHeader}
+use Rattle.ebr.specs.declared.Entries.{Entries}
+use Rattle.ebr.specs.Ebr.{ebrOf}
+use Rattle.extract.specs.Extract.{count, lbaAt, recordAt}
+use Rattle.extract.specs.declared.Outcome.{Outcome}
+use Rattle.extract.specs.declared.Outcome.the-variants as outcome
+use Rattle.table.specs.declared.LinkLba.{LinkLba}
+use Rattle.table.specs.declared.LogicalPartition.{LogicalPartition}
+use Rattle.table.specs.Table.{slots}
+use Rattle.chain.specs.declared.Head.{Head}
+use Rattle.chain.specs.declared.Met.{Met}
+use Rattle.chain.specs.declared.Met.the-variants.{Shut, Ebr}
+use Rattle.chain.specs.declared.Counted.{Counted}
+use Rattle.chain.specs.declared.Way.{Way}
+use Rattle.chain.specs.Chain.{Link, firstLink, linkOf, startingAt, placed}
+use Rattle.chain.specs.Facts.{at}
+
+-- the entries of an EBR
+abbrev pub entriesIn : EBRHeader → Entries
+entriesIn h = record { «partition_1» = h .«partition_1»; «partition_2» = h .«partition_2» }
+
+abbrev pub shown : Said EBRHeader → Said Entries
+shown s = andThen s (λ h. gives (entriesIn h))
+
+-- where an EBR's partition starts, and its link
+pub record Ends : Type 0 where
+  pub part : ℕ
+  pub link : ℕ
+
+abbrev pub endsOf : Entries → Ends
+endsOf e = record { part = e .«partition_1» .«starting_lba»; link = e .«partition_2» .«starting_lba» }
+
+abbrev pub endsIn : EBRHeader → Ends
+endsIn h = record { part = h .«partition_1» .«starting_lba»; link = h .«partition_2» .«starting_lba» }
+
+abbrev pub endsSaid : Said EBRHeader → Said Ends
+endsSaid s = andThen s (λ h. gives (endsIn h))
+
+-- what a head says of its EBR
+abbrev pub headEnds : Head → Ends
+headEnds h = record { part = h .start; link = h .link .0 }
+
+abbrev pub metSaid : Met → Said Ends
+metSaid (Shut k) = refuses k
+metSaid (Ebr h) = gives (headEnds h)
+
+-- it is the head of the extract's record for sector a
+pub record HeadAt (x : List ℕ) (a : ℕ) (h : Head) : Type 0 where
+  pub inside : h .number < count x
+  pub at : lbaAt x (h .number) ≡ a
+  pub start : h .start ≡ entryAt (recordAt x (h .number)) 446 .«starting_lba»
+
+abbrev pub MetAt : List ℕ → ℕ → Met → Type 0
+MetAt x a (Shut k) = Unit {0}
+MetAt x a (Ebr h) = HeadAt x a h
+
+-- the place of an EBR in front of those behind it
+abbrev pub before : ℕ → Said (List ℕ) → Said (List ℕ)
+before a s = andThen s (λ ps. gives (a ∷ ps))
+
+-- the places behind an EBR at X + rel whose link starts at t
+unfoldable pub onwards : (ℕ → Said (List ℕ)) → ℕ → ℕ → Said (List ℕ)
+onwards go rel t = pick (eqb t 0) (gives []) (pick (ltb rel t) (go t) (refuses 5))
+
+-- the places of the EBRs of a chain: the one at X + rel and those behind it, at most m
+unfoldable pub places : (ℕ → Said EBRHeader) → ℕ → ℕ → ℕ → Ends → Said (List ℕ)
+places v X zero rel e = refuses 6
+places v X (suc m) rel e =
+    pick (ltb (e .part + (X + rel)) (2 ^ 32)) (before (X + rel) (onwards (λ r. andThen (endsSaid (v (X + r))) (places v X m r)) rel (e .link))) (refuses 7)
+
+abbrev pub placesFrom : (ℕ → Said EBRHeader) → ℕ → ℕ → ℕ → Said (List ℕ)
+placesFrom v X m r = andThen (endsSaid (v (X + r))) (places v X m r)
+
+-- the places of logical partitions that are read
+abbrev pub placesOf : Said (List LogicalPartition) → Said (List ℕ)
+placesOf s = andThen s (λ ls. gives (map at ls))
+
+-- the number of EBRs, p of them in front of those that are read; a refusal gives none
+abbrev pub counted : ℕ → Said (List ℕ) → Counted
+counted p (gives ps) = record { answer = outcome.Done; count = p + length ps }
+counted p (refuses k) = record { answer = outcome.Refused (record { number = k }); count = 0 }
+
+-- a record number of the extract, of an EBR whose partition's start counted from the disk's fits
+pub record Fit (x : List ℕ) (i : ℕ) : Type 0 where
+  pub inside : i < count x
+  pub fits : entryAt (recordAt x i) 446 .«starting_lba» + lbaAt x i < 2 ^ 32
+
+-- the numbers begin with those of the records at these places
+abbrev pub Noted : List ℕ → List ℕ → List ℕ → Type 0
+Noted x is [] = Unit {0}
+Noted x [] (a ∷ ps) = ⊥
+Noted x (i ∷ is) (a ∷ ps) = Fit x i × (lbaAt x i ≡ a) × Noted x is ps
+
+abbrev pub NotedAll : List ℕ → List ℕ → Said (List ℕ) → Type 0
+NotedAll x is (gives ps) = Noted x is ps
+NotedAll x is (refuses k) = Unit {0}
+
+-- the first m numbers fit
+abbrev pub Fits : List ℕ → ℕ → List ℕ → Type 0
+Fits x m is = (j : ℕ) → j < m → Fit x (getD is j 0)
+
+-- the way to an EBR, ps a link
+abbrev pub linkBy : Way → Link
+linkBy w = record { sectors = w .sectors; first = w .first; last = w .last }
+
+-- the link to the first EBR, if there is an extended entry
+abbrev pub firstOf : Option MBRPartitionEntry → Link
+firstOf none = firstLink noEntry
+firstOf (some e) = firstLink e
+
+-- the entry of the partition of record number i, its start counted from the disk's
+abbrev pub partIn : List ℕ → ℕ → MBRPartitionEntry
+partIn x i = startingAt (entryAt (recordAt x i) 446 .«starting_lba» + lbaAt x i) (entryAt (recordAt x i) 446)
+
+-- the logical partition of record number i, to which k leads
+abbrev pub lifted : List ℕ → Link → ℕ → LogicalPartition
+lifted x k i = placed (lbaAt x i) k (ebrOf (recordAt x i))
+
+-- the link in record number i
+abbrev pub linkAt : List ℕ → ℕ → Link
+linkAt x i = linkOf (entryAt (recordAt x i) 462)
+
+-- the logical partitions of these records, to the first of which k leads, each with the link to the next
+unfoldable pub rebuilt : List ℕ → Link → List ℕ → List LogicalPartition
+rebuilt x k [] = []
+rebuilt x k (i ∷ is) = lifted x k i ∷ rebuilt x (linkAt x i) is
+
+-- the link to number j of them
+abbrev pub linkTo : List ℕ → Link → List ℕ → ℕ → Link
+linkTo x k is j = pick (eqb j 0) k (linkAt x (getD is (j - 1) 0))
+
+-- logical partitions in their slots; a refusal gives none
+pub record Logicals : Type 0 where
+  pub answer : Outcome
+  pub logicals : List LogicalPartition
+  pub count : ℕ
+
+abbrev pub told : Said (List LogicalPartition) → Logicals
+told (gives ls) = record { answer = outcome.Done; logicals = slots ls; count = length ls }
+told (refuses k) = record { answer = outcome.Refused (record { number = k }); logicals = slots []; count = 0 }

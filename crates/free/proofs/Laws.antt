@@ -371,12 +371,12 @@ pub told-listed : (r : FreeAnswer) (v : Said (List Run)) → Told r v → r .run
 told-listed r v t = listed-again (valueOr [] v) (r .runs) (t .1)
 
 -- the runs of the extended area after those between primaries
-module _ (es : List MBRPartitionEntry) (disk align : ℕ) (v : Said (List ℕ)) (rs : List Run) (g : area align 0 disk (primaryZones es) ≡ gives rs) where
-  pub free-none : extendedOf es ≡ none → gives rs ≡ freeIn es disk align v
-  free-none e = sym (ap (λ (w : Said (List Run)). andThen w (λ (xs : List Run). joined xs (within align (extendedOf es) v))) g ∙ ap (λ (o : Option MBRPartitionEntry). joined rs (within align o v)) e ∙ ap gives (append-nil rs))
+module _ (align : ℕ) (u : Said (List ℕ)) (o : Option MBRPartitionEntry) (v : Said (List ℕ)) (rs : List Run) (g : between align u ≡ gives rs) where
+  pub free-none : o ≡ none → gives rs ≡ freeIn align u o v
+  free-none e = sym (ap (λ (w : Said (List Run)). andThen w (λ (xs : List Run). joined xs (within align o v))) g ∙ ap (λ (p : Option MBRPartitionEntry). joined rs (within align p v)) e ∙ ap gives (append-nil rs))
 
-  pub free-some : (e : MBRPartitionEntry) → extendedOf es ≡ some e → joined rs (between align (closed v (e .«starting_lba» + e .sectors))) ≡ freeIn es disk align v
-  free-some e h = sym (ap (λ (w : Said (List Run)). andThen w (λ (xs : List Run). joined xs (within align (extendedOf es) v))) g ∙ ap (λ (o : Option MBRPartitionEntry). joined rs (within align o v)) h)
+  pub free-some : (e : MBRPartitionEntry) → o ≡ some e → joined rs (between align (closed v (e .«starting_lba» + e .sectors))) ≡ freeIn align u o v
+  free-some e h = sym (ap (λ (w : Said (List Run)). andThen w (λ (xs : List Run). joined xs (within align o v))) g ∙ ap (λ (p : Option MBRPartitionEntry). joined rs (within align p v)) h)
 
 -- one turn over the logical partitions
 module _ (ls : List LogicalPartition) (n i : ℕ) (k : n ≤ length ls) where
@@ -411,7 +411,7 @@ module _ (t : MBR) where
   free-zero h e = rw (le-leb (t .count) 24 h, le-ltb 0 (t .align) (omega arith))
 
   pub free-steps : t .count ≤ 24 → 0 < t .align
-      → freeIn (primaries (t .header)) (t .«disk_size») (t .align) (more (gives (begin (extendedIn t) ∷ [])) (logicalZones (logicals t))) ≡ free t
+      → freeIn (t .align) (positions 0 (t .«disk_size») (primaryZones (primaries (t .header)))) (extendedIn t) (more (gives (begin (extendedIn t) ∷ [])) (logicalZones (logicals t))) ≡ free t
   unfolding free
   free-steps h k =
       rw (le-leb (t .count) 24 h, lt-ltb 0 (t .align) k)

@@ -160,9 +160,9 @@ abbrev pub within : ℕ → Option MBRPartitionEntry → Said (List ℕ) → Sai
 within align none v = gives []
 within align (some e) v = between align (closed v (e .«starting_lba» + e .sectors))
 
--- the free runs between primaries, then those of the extended area
-abbrev pub freeIn : List MBRPartitionEntry → ℕ → ℕ → Said (List ℕ) → Said (List Run)
-freeIn es disk align v = andThen (area align 0 disk (primaryZones es)) (λ rs. joined rs (within align (extendedOf es) v))
+-- the free runs between the positions of the primaries, then those of the extended area
+abbrev pub freeIn : ℕ → Said (List ℕ) → Option MBRPartitionEntry → Said (List ℕ) → Said (List Run)
+freeIn align u o v = andThen (between align u) (λ rs. joined rs (within align o v))
 
 -- what an answer says: 01's number, or the runs
 abbrev pub said : Option ℕ → List Run → Said (List Run)

@@ -4,14 +4,16 @@ use entry::MBRPartitionEntry;
 use mbr::Found;
 use mbr::MBRHeader;
 use table::LOGICALS;
+use table::LogicalPartition;
 use table::MBR;
 ghost use mathlib.Core.Path.{_≡_};
 ghost use mathlib.Core.List.{[], _∷_, _++_};
 ghost use Prim.Native.Nat.{_+_, _≤_, _<_};
-ghost use lib.ListN.{length};
+ghost use lib.ListN.{length, take};
 ghost use Rattle.base.specs.Said.{gives, refuses, valueOr};
 ghost use Rattle.mbr.specs.Mbr.{primaries, found as entryFound};
-ghost use Rattle.free.specs.Free.{u32, zone, primaryZones, found, joined, free, listed, runsIn, view, more, closed, gapSaid, begin, between, positions, freeIn, mostRuns, Told};
+ghost use Rattle.table.specs.Table.{most};
+ghost use Rattle.free.specs.Free.{u32, zone, primaryZones, logicalZones, found, joined, free, listed, runsIn, view, more, closed, gapSaid, begin, between, positions, freeIn, mostRuns, Told};
 
 pub struct Run {
     pub start: u32,
@@ -207,20 +209,36 @@ fn search_area(p: Points, align: u32, x: Runs) -> FreeAnswer
     collect(&at[..n], align, x)
 }
 
-// The positions of the primary partitions.
-fn primary_points(h: MBRHeader, disk: u32) -> Points
-    ensures { λ r. ⌜ (view r ≡ positions 0 disk (primaryZones (primaries h))) × (r .count ≤ 10) ⌝ }
+// The positions of four primary partitions.
+fn primary_points(
+    one: MBRPartitionEntry,
+    two: MBRPartitionEntry,
+    three: MBRPartitionEntry,
+    four: MBRPartitionEntry,
+    disk: u32,
+) -> Points
+    ensures { λ r. ⌜ (view r ≡ positions 0 disk (primaryZones (one ∷ two ∷ three ∷ four ∷ []))) × (r .count ≤ 10) ⌝ }
 {
-    let one = h.partition_1;
-    let two = h.partition_2;
-    let three = h.partition_3;
-    let four = h.partition_4;
     let all = Points::from(0)
         .with(0, one)
         .with(0, two)
         .with(0, three)
         .with(0, four);
     all.to(wide(disk))
+}
+
+// The positions of the logical partitions, after the extended area's first.
+fn logical_points(first: u32, ls: [LogicalPartition; LOGICALS], count: usize) -> Points
+    requires { ⌜ count ≤ most ⌝ }
+    ensures { λ r. ⌜ (view r ≡ more (gives (first ∷ [])) (logicalZones (take count ls))) × (r .count < 50) ⌝ }
+{
+    let mut p = Points::from(first);
+    for i in 0..count {
+        let l = ls[i];
+        let e = l.partition;
+        p = p.with(l.absolute_ebr_lba.0, e);
+    }
+    p
 }
 
 // Where the extended area begins; 0 if there is none.
@@ -233,24 +251,34 @@ fn begin_of(f: Found) -> u32
     }
 }
 
-// The free runs between the primaries, then those of the extended area, of which p has all positions but the last.
-fn free_in(h: MBRHeader, disk: u32, align: u32, p: Points) -> FreeAnswer
-    requires { ⌜ (0 < align) × (p .count < 50) ⌝ }
-    ensures { λ r. ⌜ Told r (freeIn (primaries h) disk align (view p)) × (r .runs .count ≤ mostRuns) ⌝ }
+// The free runs between the positions of the primaries, then those of the extended area, of which q has all positions but the last.
+fn free_in(align: u32, p: Points, found: Found, q: Points) -> FreeAnswer
+    requires { ⌜ (0 < align) × ((p .count ≤ 10) × (q .count < 50)) ⌝ }
+    ensures { λ r. ⌜ Told r (freeIn align (view p) (entryFound found) (view q)) × (r .runs .count ≤ mostRuns) ⌝ }
 {
     let none = Runs::new();
-    let first = search_area(primary_points(h, disk), align, none);
+    let first = search_area(p, align, none);
     let answer = first.answer;
     let Answer::Done = answer else {
         return first;
     };
-    let found = h.get_extended_partition();
     let Found::Entry(e) = found else {
         return first;
     };
     let runs = first.runs;
     let end = wide(e.starting_lba) + wide(e.sectors);
-    search_area(p.to(end), align, runs)
+    search_area(q.to(end), align, runs)
+}
+
+// The positions of a header's primary partitions.
+fn points_of(h: MBRHeader, disk: u32) -> Points
+    ensures { λ r. ⌜ (view r ≡ positions 0 disk (primaryZones (primaries h))) × (r .count ≤ 10) ⌝ }
+{
+    let one = h.partition_1;
+    let two = h.partition_2;
+    let three = h.partition_3;
+    let four = h.partition_4;
+    primary_points(one, two, three, four, disk)
 }
 
 // Free runs of a table, as the crate finds them.
@@ -266,11 +294,8 @@ pub fn find_free_sectors(t: MBR) -> FreeAnswer
         return refused(7);
     }
     let h = t.header;
-    let mut p = Points::from(begin_of(h.get_extended_partition()));
-    for i in 0..count {
-        let l = t.logical_partitions[i];
-        let e = l.partition;
-        p = p.with(l.absolute_ebr_lba.0, e);
-    }
-    free_in(h, t.disk_size, align, p)
+    let ls = t.logical_partitions;
+    let found = h.get_extended_partition();
+    let q = logical_points(begin_of(found), ls, count);
+    free_in(align, points_of(h, t.disk_size), found, q)
 }

@@ -10,9 +10,8 @@ use native.Mathlib.Decide.{decLt}
 use lib.Dec.{ltb, leb, eqb}
 use lib.ListN.{length, take, drop, getD, drop-of-length-le}
 use lib.Seq.{drop-cons, length-take-le, getD-take}
-use borrow.Author.Tests.{lt-ltb, le-ltb, lt-leb, le-leb, leb-true, eqb-true, eq-eqb, ne-eqb}
+use borrow.Author.Tests.{lt-ltb, le-ltb, lt-leb, le-leb, leb-true, leb-false, eqb-true, eq-eqb, ne-eqb}
 use Rattle.base.specs.Pick.{pick}
-use Rattle.base.specs.Checks.{_!_, checked}
 use Rattle.base.specs.Said.{Said, gives, refuses, andThen}
 use Rattle.free.specs.declared.Run.{Run}
 use Rattle.free.specs.declared.Runs.{Runs}
@@ -20,13 +19,12 @@ use Rattle.base.specs.Said.{refusal}
 use Rattle.base.specs.declared.Answer.{Answer}
 use Rattle.base.specs.declared.Answer.the-variants.{Done, Refused as No}
 use Rattle.entry.specs.declared.MBRPartitionEntry.{MBRPartitionEntry}
-use Rattle.mbr.specs.Mbr.{primaryOf}
 use Rattle.table.specs.declared.MBR.{MBR}
-use Rattle.table.specs.Table.{noLogical, logicals, extendedIn}
-use Rattle.lookup.specs.declared.Kind.the-variants.{Nothing as NoKind, Primary, Logical}
-use Rattle.lookup.specs.Numbers.{entryOf, ofKind, logicalOf}
+use Rattle.lookup.specs.declared.Got.{Got}
+use Rattle.lookup.specs.Numbers.{entryOf, gotSaid, getSays}
+use Rattle.free.proofs.Laws.{free-six}
 use Rattle.free.specs.declared.FreeAnswer.{FreeAnswer}
-use Rattle.free.specs.Free.{run, u32, runsIn, said, freeSaid, free, outer, inner, joined, Ended, Usable}
+use Rattle.free.specs.Free.{run, u32, runsIn, said, freeSaid, free, Ended, Usable}
 use Rattle.place.specs.declared.Place.{Place}
 use Rattle.place.specs.declared.Place.the-variants.{Nowhere, At, Refused}
 use Rattle.place.specs.declared.Size.{Size}
@@ -35,7 +33,7 @@ use Rattle.place.specs.declared.Rule.{Rule}
 use Rattle.place.specs.declared.Rule.the-variants.{First, Last, Smallest}
 use Rattle.place.specs.declared.Spot.{Spot}
 use Rattle.place.specs.declared.Spot.the-variants.{Nothing, Free}
-use Rattle.place.specs.Place.{placeSaid, sizeSaid, spotted, roomy, firstOf, lastOf, smaller, smallestOf, chosen, prefer, onward, startOf, rightmost, startBy, lastBy, largest, orSixteen, sizeBy, lengthAt, grown, grownBy, maximumFor}
+use Rattle.place.specs.Place.{placeSaid, sizeSaid, spotted, roomy, firstOf, lastOf, smaller, smallestOf, chosen, prefer, onward, startOf, rightmost, startBy, lastBy, largest, orSixteen, sizeBy, lengthAt, grown, grownBy, growth, maximumFor}
 
 -- what an answer says determines it
 pub place-injective : (a b : Place) → placeSaid a ≡ placeSaid b → a ≡ b
@@ -253,38 +251,18 @@ module _ (e : MBRPartitionEntry) where
     pub grown-in : (m : ℕ) → past < u32 → m ≡ lengthAt past (runsIn x) → e .sectors + m < u32 → gives (e .sectors + m) ≡ grown e (runsIn x)
     grown-in m h z l = sym (rw (lt-ltb past u32 h, ← z, lt-ltb (e .sectors + m) u32 l)) ∙ here
 
--- the entry of a number
-module _ (t : MBR) (i : ℕ) where
-  pub entry-primary : i < 5 → entryOf t i ≡ primaryOf (t .header) i
-  entry-primary h = go (eqb i 0) refl
-    where
-      go : (b : Bool) → eqb i 0 ≡ b → ofKind t (pick b NoKind (pick (ltb i 5) (Primary i) (Logical (i - 5)))) ≡ primaryOf (t .header) i
-      go true e = let z : i ≡ 0 = eqb-true i 0 e in rw z
-      go false e = rw (lt-ltb i 5 h)
+-- how far a partition can grow, once the runs and the entry are found
+pub grow-done : (f : FreeAnswer) (g : Got) (s : Said (Option MBRPartitionEntry)) → f .answer ≡ Done → gotSaid g ≡ s → andThen s (λ o. grownBy o (runsIn (f .runs))) ≡ growth (gotSaid g) (freeSaid f)
+grow-done f g s d e = ap (λ (w : Said (Option MBRPartitionEntry)). andThen w (λ o. grownBy o (runsIn (f .runs)))) (sym e) ∙ ap (growth (gotSaid g)) (said-done f d)
 
-  entry-later : 5 ≤ i → logicalOf t (i - 5) ≡ entryOf t i
-  entry-later h = rw (ne-eqb i 0 (λ (z : i ≡ 0). omega arith), le-ltb i 5 h)
-
-  pub entry-logical : 5 ≤ i → i - 5 < t .count → entryOf t i ≡ some (getD (t .«logical_partitions») (i - 5) noLogical .partition)
-  entry-logical h k = sym (entry-later h) ∙ rw (lt-ltb (i - 5) (t .count) k)
-
-  pub entry-none : 5 ≤ i → t .count ≤ i - 5 → entryOf t i ≡ none
-  entry-none h k = sym (entry-later h) ∙ rw (le-ltb (i - 5) (t .count) k)
-
-  pub for-refused : (f : FreeAnswer) (k : ℕ) → freeSaid f ≡ free t → f .answer ≡ No k → refuses k ≡ maximumFor t i
-  for-refused f k e d = ap (λ (v : Said (List Run)). andThen v (grownBy (entryOf t i))) (said-refused f k d ∙ e)
-
-  pub for-entry : (f : FreeAnswer) (o : Option MBRPartitionEntry) → freeSaid f ≡ free t → f .answer ≡ Done → entryOf t i ≡ o → grownBy o (runsIn (f .runs)) ≡ maximumFor t i
-  for-entry f o e d h = ap (λ (p : Option MBRPartitionEntry). grownBy p (runsIn (f .runs))) (sym h) ∙ ap (λ (v : Said (List Run)). andThen v (grownBy (entryOf t i))) (said-done f d ∙ e)
-
-  -- where there are runs, the count is at most 24
-  pub for-count : (f : FreeAnswer) → freeSaid f ≡ free t → f .answer ≡ Done → t .count ≤ 24
-  unfolding free
-  for-count f e d = go (leb (t .count) 24) refl (said-done f d ∙ e)
-    where
-      rest : Said (List Run)
-      rest = checked ((7 ! ltb 0 (t .align)) ∷ []) refuses (andThen (outer t) (λ rs. joined rs (inner (t .align) (extendedIn t) (logicals t))))
-
-      go : (b : Bool) → leb (t .count) 24 ≡ b → gives (runsIn (f .runs)) ≡ pick b rest (refuses 6) → t .count ≤ 24
-      go true q h = leb-true (t .count) 24 q
-      go false q h = let w : _≡_ {A = ℕ} 0 1 = cc in absurd (omega arith)
+-- where there are runs, the count is at most 24, and the lookup does not refuse
+pub growth-for : (t : MBR) (i : ℕ) → growth (getSays t i) (free t) ≡ maximumFor t i
+growth-for t i = go (leb (t .count) 24) refl
+  where
+    go : (b : Bool) → leb (t .count) 24 ≡ b → growth (getSays t i) (free t) ≡ maximumFor t i
+    go true q =
+        let e : getSays t i ≡ gives (entryOf t i) = rw q in
+        ap (λ (g : Said (Option MBRPartitionEntry)). growth g (free t)) e
+    go false q =
+        let e : free t ≡ refuses 6 = sym (free-six t (leb-false (t .count) 24 q)) in
+        ap (growth (getSays t i)) e ∙ sym (ap (λ (v : Said (List Run)). andThen v (grownBy (entryOf t i))) e)

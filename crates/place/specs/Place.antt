@@ -131,5 +131,9 @@ abbrev pub grownBy : Option MBRPartitionEntry → List Run → Said ℕ
 grownBy none rs = refuses 15
 grownBy (some e) rs = grown e rs
 
+-- free runs' refusals before those of the lookup
+abbrev pub growth : Said (Option MBRPartitionEntry) → Said (List Run) → Said ℕ
+growth g v = andThen v (λ rs. andThen g (λ o. grownBy o rs))
+
 abbrev pub maximumFor : MBR → ℕ → Said ℕ
 maximumFor t i = andThen (free t) (grownBy (entryOf t i))

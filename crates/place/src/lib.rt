@@ -4,15 +4,14 @@ use entry::MBRPartitionEntry;
 use free::FreeAnswer;
 use free::Run;
 use free::Runs;
-use mbr::Found;
+use lookup::Got;
 use table::MBR;
 ghost use mathlib.Core.Path.{_≡_};
 ghost use mathlib.Core.List.{[], _∷_};
-ghost use mathlib.Core.Option.{some};
 ghost use Prim.Native.Nat.{_≤_, _<_, max};
-ghost use Rattle.mbr.specs.Mbr.{found as entryFound};
+ghost use Rattle.lookup.specs.Numbers.{gotSaid};
 ghost use Rattle.free.specs.Free.{runsIn, freeSaid, mostRuns, Usable};
-ghost use Rattle.place.specs.Place.{placeSaid, sizeSaid, spotted, roomy, chosen, onward, startBy, lastBy, firstPlace, lastPlace, optimalPlace, largest, sizeBy, maximumSize, lengthAt, grown, grownBy, maximumFor};
+ghost use Rattle.place.specs.Place.{placeSaid, sizeSaid, spotted, roomy, chosen, onward, startBy, lastBy, firstPlace, lastPlace, optimalPlace, largest, sizeBy, maximumSize, lengthAt, grown, growth, maximumFor};
 
 // A place, none, or a refusal's number.
 pub enum Place {
@@ -200,26 +199,26 @@ fn grown(e: MBRPartitionEntry, x: Runs) -> Size
     Size::Sectors(sectors + more)
 }
 
-pub fn get_maximum_partition_size_for(t: MBR, i: usize) -> Size
-    ensures { λ r. ⌜ sizeSaid r ≡ maximumFor t i ⌝ }
+// The size to which a partition that was looked up can grow.
+fn grown_by(f: FreeAnswer, g: Got) -> Size
+    requires { ⌜ f .runs .count ≤ mostRuns ⌝ }
+    ensures { λ r. ⌜ sizeSaid r ≡ growth (gotSaid g) (freeSaid f) ⌝ }
 {
-    let f = free::find_free_sectors(t);
     let answer = f.answer;
     if let Answer::Refused(k) = answer {
         return Size::Refused(k);
     }
     let runs = f.runs;
-    if i < 5 {
-        let h = t.header;
-        let Found::Entry(e) = h.get(i) else {
-            return Size::Refused(15);
-        };
-        return grown(e, runs);
+    match g {
+        Got::Nothing => Size::Refused(15),
+        Got::Entry(e) => grown(e, runs),
+        Got::Refused(k) => Size::Refused(k),
     }
-    if t.count <= i - 5 {
-        return Size::Refused(15);
-    }
-    let l = t.logical_partitions[i - 5];
-    let e = l.partition;
-    grown(e, runs)
+}
+
+pub fn get_maximum_partition_size_for(t: MBR, i: usize) -> Size
+    ensures { λ r. ⌜ sizeSaid r ≡ maximumFor t i ⌝ }
+{
+    let g = lookup::get(t, i);
+    grown_by(free::find_free_sectors(t), g)
 }

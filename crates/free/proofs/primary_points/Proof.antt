@@ -1,4 +1,3 @@
-use Rattle.mbr.specs.Mbr.{primaries}
 use Rattle.free.specs.Free.{primaryZones}
 use Rattle.free.proofs.Laws.{more-on, closed-on, primary-steps, positions-steps}
 use Rattle.base.specs.Said.{Said, gives, refuses}
@@ -34,14 +33,14 @@ to-requires c κs = search needs
 
 returns : tie.Need-returns
 returns c =
-    let s = c .before .before .before .before .before .before .before .before .before .before .before in
-    let h = s .args .h in
-    let o = more-on 0 (h .«partition_1») (c .before .before .before .before .before .before .from .ensures .0) (c .before .before .before .before .before .with .ensures .0) in
-    let p = more-on 0 (h .«partition_2») o (c .before .before .before .before .with2 .ensures .0) in
-    let q = more-on 0 (h .«partition_3») p (c .before .before .before .with3 .ensures .0) in
-    let r = more-on 0 (h .«partition_4») q (c .before .before .with4 .ensures .0) in
-    let e = r ∙ primary-steps (gives (0 ∷ [])) (h .«partition_1») (h .«partition_2») (h .«partition_3») (h .«partition_4») in
-    (c .to .ensures .0 ∙ closed-on e (c .before .wide .ensures .0) ∙ positions-steps 0 (s .args .disk) (primaryZones (primaries h)), omega (arith, c .to .ensures .1, c .before .before .with4 .ensures .1, c .before .before .before .with3 .ensures .1, c .before .before .before .before .with2 .ensures .1, c .before .before .before .before .before .with .ensures .1, c .before .before .before .before .before .before .from .ensures .1))
+    let s = c .before .before .before .before .before .before .before in
+    let es = s .args .one ∷ s .args .two ∷ s .args .three ∷ s .args .four ∷ [] in
+    let o = more-on 0 (s .args .one) (c .before .before .before .before .before .before .from .ensures .0) (c .before .before .before .before .before .with .ensures .0) in
+    let p = more-on 0 (s .args .two) o (c .before .before .before .before .with2 .ensures .0) in
+    let q = more-on 0 (s .args .three) p (c .before .before .before .with3 .ensures .0) in
+    let r = more-on 0 (s .args .four) q (c .before .before .with4 .ensures .0) in
+    let e = r ∙ primary-steps (gives (0 ∷ [])) (s .args .one) (s .args .two) (s .args .three) (s .args .four) in
+    (c .to .ensures .0 ∙ closed-on e (c .before .wide .ensures .0) ∙ positions-steps 0 (s .args .disk) (primaryZones es), omega (arith, c .to .ensures .1, c .before .before .with4 .ensures .1, c .before .before .before .with3 .ensures .1, c .before .before .before .before .with2 .ensures .1, c .before .before .before .before .before .with .ensures .1, c .before .before .before .before .before .before .from .ensures .1))
 
 pub primary-points-spec : {M : Type 1} → statement M
 primary-points-spec =

@@ -35,7 +35,10 @@ slice-aggregate-sort c =
     sym (length-take-le (s .args .p .count) (s .args .p .at) (omega (arith, s .pre .1 .1 .0)))
 
 sort-requires : tie.Need-sort-requires
-sort-requires c κs = search needs
+sort-requires c κs =
+    let s = c .before .before .before .before in
+    let n : length (s .args .p .at) ≡ 50 = search needs in
+    omega (arith, length-take-le (s .args .p .count) (s .args .p .at) (omega (arith, s .pre .1 .1 .0)), s .pre .1 .1 .0)
 
 array-share-prefix-at : tie.Need-array-share-prefix-at
 array-share-prefix-at c =

@@ -375,7 +375,7 @@ fn fresh_logical(q: Request, p: Place, n: usize) -> LogicalPartition
 }
 
 // The partition with its addresses, if the geometry is complete.
-fn with_geometry(g: Geometry, l: LogicalPartition) -> Updated
+pub fn with_geometry(g: Geometry, l: LogicalPartition) -> Updated
     ensures { λ r. ⌜ refusal (r .answer) ≡ first-fail (pick (complete g) (updateChecks g l) []) ⌝ }
     ensures { λ r. ⌜ (refusal (r .answer) ≡ none → r .logical ≡ pick (complete g) (addressed g l) l) ⌝ }
 {
@@ -416,7 +416,7 @@ fn placed_logical(q: Request, p: Place, n: usize) -> Updated
 }
 
 // The new partition of a request behind n others in an extended entry, or the first refusal.
-fn new_logical(q: Request, e: MBRPartitionEntry, n: usize) -> Updated
+pub fn new_logical(q: Request, e: MBRPartitionEntry, n: usize) -> Updated
     ensures { λ r. ⌜ refusal (r .answer) ≡ first-fail (pushChecks q (some e) n) ⌝ }
     ensures { λ r. ⌜ (refusal (r .answer) ≡ none → (r .logical ≡ newLogical (laterThan n) q) × (n < 24)) ⌝ }
 {

@@ -1,0 +1,101 @@
+-- The plan from what the search says, and the list after so many stores. Assumes nothing.
+use mathlib.Core.Path.{_≡_, refl, sym, ap, _∙_}
+use mathlib.Core.Option.{none, some}
+use mathlib.Core.List.{List, _++_}
+use Prim.Native.Nat.{ℕ, suc, _+_, _≤_, _<_}
+use native.Mathlib.Nat.{zero-add, le-trans}
+use native.Mathlib.Numerals.{add-one}
+use native.Mathlib.Omega.{arith}
+use borrow.Author.Tests.{le-leb, lt-leb}
+use lib.ListN.{length, getD, take, drop, set}
+use lib.Seq.{paste, paste-suc, length-paste, length-take-le}
+use Rattle.base.specs.Said.{Said, gives, refuses, refusal}
+use Rattle.table.specs.declared.MBR.{MBR}
+use Rattle.free.specs.declared.Run.{Run}
+use Rattle.free.specs.declared.Runs.{Runs}
+use Rattle.free.specs.declared.FreeAnswer.{FreeAnswer}
+use Rattle.free.specs.Free.{free, listed, runsIn, Told, mostRuns}
+use Rattle.free.proofs.Laws.{said-told, told-listed}
+use Rattle.runs.specs.declared.Plan.{Plan}
+use Rattle.runs.specs.declared.Counted.{Counted}
+use Rattle.runs.specs.declared.Counted.the-variants.{Found, Refused}
+use Rattle.runs.specs.Runs.{freeFor, freeList, first, counted, Planned}
+
+-- no second answer says the same
+pub counted-injective : (a b : Counted) → counted a ≡ counted b → a ≡ b
+counted-injective (Found m) (Found n) e = let p : m ≡ n = cc in ap Found p
+counted-injective (Refused j) (Refused k) e = let p : j ≡ k = cc in ap Refused p
+counted-injective (Found m) (Refused k) e = let w : _≡_ {A = ℕ} 0 1 = cc in absurd (omega arith)
+counted-injective (Refused j) (Found n) e = let w : _≡_ {A = ℕ} 0 1 = cc in absurd (omega arith)
+
+-- the count of what the search says is the number of its runs
+counts : (f : FreeAnswer) (v : Said (List Run)) → Told f v → f .runs .count ≡ length (runsIn (f .runs))
+unfolding listed
+counts f v told = ap (λ (x : Runs). x .count) (told-listed f v told)
+
+module _ (t : MBR) (n : ℕ) where
+  -- nothing is stored: the search refuses, or fewer than thirty are lent
+  planned-none : (k : ℕ) (r : Plan) → freeFor t n ≡ refuses k → counted (r .answer) ≡ refuses k → r .stores ≡ 0 → Planned t n r
+  planned-none k r e a s = rw (e, a, s) (refl, (refl, (omega arith, omega arith)))
+
+  -- what a list of n is told where the search refuses, where it is too short, and where it has room
+  for-refused : (k : ℕ) → free t ≡ refuses k → freeFor t n ≡ refuses k
+  unfolding freeFor
+  for-refused k e = rw e
+
+  for-short : (rs : List Run) → free t ≡ gives rs → n < mostRuns → freeFor t n ≡ refuses 19
+  unfolding freeFor
+  for-short rs e h = rw (e, lt-leb mostRuns n h)
+
+  for-found : (rs : List Run) → free t ≡ gives rs → mostRuns ≤ n → freeFor t n ≡ gives rs
+  unfolding freeFor
+  for-found rs e h = rw (e, le-leb mostRuns n h)
+
+  -- what the search answered
+  module _ (f : FreeAnswer) (told : Told f (free t)) where
+    pub planned-refused : (k : ℕ) (r : Plan) → refusal (f .answer) ≡ some k → counted (r .answer) ≡ refuses k → r .stores ≡ 0 → Planned t n r
+    planned-refused k r e = planned-none k r (for-refused k (sym (said-told f (free t) told) ∙ rw e))
+
+    gave : refusal (f .answer) ≡ none → free t ≡ gives (runsIn (f .runs))
+    gave e = sym (said-told f (free t) told) ∙ rw e
+
+    pub planned-short : (r : Plan) → refusal (f .answer) ≡ none → n < mostRuns → counted (r .answer) ≡ refuses 19 → r .stores ≡ 0 → Planned t n r
+    planned-short r e h = planned-none 19 r (for-short (runsIn (f .runs)) (gave e) h)
+
+    pub planned-found : f .runs .count ≤ mostRuns → refusal (f .answer) ≡ none → mostRuns ≤ n → Planned t n record { answer = Found (f .runs .count); stores = f .runs .count; runs = f .runs .at }
+    planned-found few e h = rw (for-found (runsIn (f .runs)) (gave e) h) (ap gives (counts f (free t) told), (refl, (few, le-trans few h)))
+
+-- a list of which the first i are replaced by those of another
+unfoldable pub laid : List Run → List Run → ℕ → List Run
+laid rs l i = take i rs ++ drop i l
+
+pub laid-zero : (rs l : List Run) → l ≡ laid rs l 0
+unfolding laid
+laid-zero rs l = refl
+
+laid-is : (rs l : List Run) (k : ℕ) → laid rs l k ≡ paste l 0 rs k
+unfolding laid
+laid-is rs l k = ap (λ (m : ℕ). take k rs ++ drop m l) (sym (zero-add k))
+
+pub laid-suc : (rs l : List Run) (i : ℕ) (z : Run) → i < length l → i < length rs → set (laid rs l i) i (getD rs i z) ≡ laid rs l (i + 1)
+laid-suc rs l i z hl hs =
+    ap (λ (w : List Run). set w i (getD rs i z)) (laid-is rs l i)
+    ∙ ap (λ (j : ℕ). set (paste l 0 rs i) j (getD rs i z)) (sym (zero-add i))
+    ∙ paste-suc l 0 rs i z (omega (arith, hl)) hs
+    ∙ sym (laid-is rs l (suc i))
+    ∙ ap (laid rs l) (sym (add-one i))
+
+pub length-laid : (rs l : List Run) (k : ℕ) → k ≤ length l → k ≤ length rs → length (laid rs l k) ≡ length l
+length-laid rs l k hl hs = ap length (laid-is rs l k) ∙ length-paste l 0 rs k (omega (arith, hl)) hs
+
+-- once all are stored that the plan has, the list is the contract's
+pub laid-all : (rs l fs : List Run) (k : ℕ) → k ≤ length rs → take k rs ≡ fs → laid rs l k ≡ first fs l
+unfolding laid first
+laid-all rs l fs k h e =
+    let c : k ≡ length fs = sym (length-take-le k rs h) ∙ ap length e in
+    ap (λ (w : List Run). w ++ drop k l) e ∙ ap (λ (m : ℕ). fs ++ drop m l) c
+
+-- a refusal leaves the lent list as it was
+pub list-kept : (t : MBR) (l : List Run) (k : ℕ) → freeFor t (length l) ≡ refuses k → freeList t l ≡ l
+unfolding first
+list-kept t l k e = rw e

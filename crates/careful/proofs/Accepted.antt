@@ -23,7 +23,8 @@ use Rattle.push.specs.declared.Request.{Request}
 use Rattle.push.specs.Push.{placeOf, sizeOf, laterThan, newLogical, roundChecks, placeChecks, endChecks, geometryChecks, pushChecks, pushed}
 use Rattle.sound.specs.Sound.{Contents, extendedIn, areaEnd, end, Sound, soundb}
 use Rattle.sound.proofs.Test.{is-sound}
-use Rattle.careful.specs.Stores.{write, moved, firstPlace, leftOut, lastOf, pushStores, skipStore, removeStore}
+use Rattle.links.specs.Links.{write}
+use Rattle.careful.specs.Stores.{moved, firstPlace, leftOut, lastOf, pushStores, skipStore, removeStore}
 use Rattle.careful.specs.Careful.{relist, roomNeeded, askChecks, lastEnd, spaceChecks, pushRefusals, pushChange, removeRefusals, removeChange}
 use Rattle.careful.specs.Demand3.{contentsOn, Safe, Whole, Asked}
 use Rattle.careful.proofs.Shown.{Shows, Heads, holds-heads}
@@ -57,7 +58,7 @@ moved-same e l p q = λ i. record {
   kept = l .kept;
 }
 
-first-same : (e : MBRPartitionEntry) (l : LogicalPartition) (ls : List LogicalPartition) → Heads e (l ∷ ls) → (ms : List LogicalPartition) → firstPlace e (l ∷ ms) ≡ l ∷ ms
+pub first-same : (e : MBRPartitionEntry) (l : LogicalPartition) (ls : List LogicalPartition) → Heads e (l ∷ ls) → (ms : List LogicalPartition) → firstPlace e (l ∷ ms) ≡ l ∷ ms
 unfolding firstPlace
 first-same e l ls h ms = ap (λ (x : LogicalPartition). x ∷ ms) (moved-same e l (h .0) (h .1))
 
@@ -87,7 +88,7 @@ module _ (q : Request) (e : MBRPartitionEntry) (n : ℕ) (h : AllHold (pushCheck
   chs-hold : AllHold upToChs
   chs-hold = hold-left upToChs ((6 ! ltb n most) ∷ []) whole
 
-  place-hold : AllHold upToPlace
+  pub place-hold : AllHold upToPlace
   place-hold = hold-left upToPlace (endChecks (laterThan n) q e) (hold-left upToEnd (geometryChecks (laterThan n) q) chs-hold)
 
   pub few-hold : n < most

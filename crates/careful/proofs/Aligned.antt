@@ -44,7 +44,7 @@ found-to : (n : ℕ) (ss : List ℕ) → 1 ≤ n → Found (divisorTo n ss)
 found-to zero ss h = absurd (omega arith)
 found-to (suc n) ss h = divisor-found n ss
 
-aligned-of : (ss : List ℕ) → 1 ≤ largest ss → Aligned ss
+pub aligned-of : (ss : List ℕ) → 1 ≤ largest ss → Aligned ss
 unfolding alignment largest
 aligned-of [] h = absurd (omega arith)
 aligned-of (s ∷ ss) h =

@@ -38,7 +38,7 @@ slots-length : (ls : List LogicalPartition) → length ls ≤ most → length (s
 unfolding slots
 slots-length ls h = length-append ls (replicate (most - length ls) emptySlot) ∙ rw (length-replicate (most - length ls) emptySlot) (omega arith)
 
-slots-front : (ls : List LogicalPartition) → take (length ls) (slots ls) ≡ ls
+pub slots-front : (ls : List LogicalPartition) → take (length ls) (slots ls) ≡ ls
 unfolding slots
 slots-front ls = take-append-seam ls (replicate (most - length ls) emptySlot)
 

@@ -12,3 +12,4 @@ pub mod Crate
 pub mod Demand3
 pub mod Output
 pub mod Laid
+pub mod Call

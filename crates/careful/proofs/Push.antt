@@ -24,7 +24,7 @@ use Rattle.sound.specs.Is.{All}
 use Rattle.sound.specs.Sound.{Contents, extendedIn, end, Sound}
 use Rattle.sound.proofs.Good.{Good, Span}
 use Rattle.sound.proofs.Test.{is-flag}
-use Rattle.careful.specs.Stores.{write}
+use Rattle.links.specs.Links.{write}
 use Rattle.careful.specs.Careful.{relist}
 use Rattle.careful.specs.Demand3.{contentsOn, In, ClearOf, Safe}
 use Rattle.careful.proofs.Places.{Fit, good-fit, fit-of, Clear, Off, clear-under, clear-over, off-under, off-over, all-of, all-skip}

@@ -21,7 +21,8 @@ use Rattle.chain.specs.Facts.{bad, viewed, seen, at, start, linkIn, bodyOf, lea
 use Rattle.sound.specs.Is.{All}
 use Rattle.sound.specs.Sound.{Contents, extendedIn, end, Sound}
 use Rattle.sound.proofs.Good.{Good, Area, area-of, extended-small}
-use Rattle.careful.specs.Stores.{write, wipe, moved}
+use Rattle.links.specs.Links.{write}
+use Rattle.careful.specs.Stores.{wipe, moved}
 use Rattle.careful.specs.Careful.{relist}
 use Rattle.careful.specs.Demand3.{contentsOn, In, ClearOf, Safe}
 use Rattle.careful.proofs.Places.{Fit, fit-of, Clear, clear-under, clear-over, all-of, all-skip, all-join}
@@ -149,7 +150,7 @@ pub moved-heads : (e : MBRPartitionEntry) (l : LogicalPartition) (ls : List Logi
 unfolding moved linkIn
 moved-heads e l ls = (refl, refl)
 
-moved-good : (e : MBRPartitionEntry) (D : ℕ) (m : LogicalPartition) (n : Option LogicalPartition) → Area D e → e .«starting_lba» ≤ at m → Good (endOf e) m n → Good (endOf e) (moved e m) n
+pub moved-good : (e : MBRPartitionEntry) (D : ℕ) (m : LogicalPartition) (n : Option LogicalPartition) → Area D e → e .«starting_lba» ≤ at m → Good (endOf e) m n → Good (endOf e) (moved e m) n
 unfolding moved end
 moved-good e D m n a h g = record {
   own = record { flag = g .own .flag; chs = (g .own .chs .0, (a .chs .0, tt)); used = g .own .used; plain = g .own .plain };
@@ -158,7 +159,7 @@ moved-good e D m n a h g = record {
   linked = g .linked;
 }
 
-moved-writable : (e : MBRPartitionEntry) (m : LogicalPartition) → Writable m → Writable (moved e m)
+pub moved-writable : (e : MBRPartitionEntry) (m : LogicalPartition) → Writable m → Writable (moved e m)
 unfolding moved
 moved-writable e m w = record { kept = w .kept; sys = w .sys; first = w .first; last = w .last }
 

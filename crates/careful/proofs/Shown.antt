@@ -48,7 +48,7 @@ pub read→contents : (d : Disk) (t : Table) → read d ≡ gives t → contents
 unfolding contentsOn
 read→contents d t e = rw e
 
-shows→contents : (d : Disk) (t : Contents) → Shows d t → Aligned (usedStarts (primariesOf t ++ parts (t .logicals))) → contentsOn d ≡ gives t
+pub shows→contents : (d : Disk) (t : Contents) → Shows d t → Aligned (usedStarts (primariesOf t ++ parts (t .logicals))) → contentsOn d ≡ gives t
 shows→contents d t s a =
     let u : Table = record { width = t .width; size = t .size; header = t .header; logicals = t .logicals; align = a .align } in
     let r : Reads d u = record { width = s .width; size = s .size; header = s .header; holds = s .holds; align = a .found } in
@@ -84,7 +84,7 @@ pub holds-heads-at : (v : ℕ → View) (e : MBRPartitionEntry) (ls : List Logic
 holds-heads-at v e [] l ms h = holds-heads v e l ms h
 holds-heads-at v e (x ∷ xs) l ms h = holds-heads v e x (xs ++ l ∷ ms) h
 
-plain-of : (X hi : ℕ) (l : LogicalPartition) (ls : List LogicalPartition) → at l ≡ X → hi < 2 ^ 32 → Row (Fit hi) (l ∷ ls) none → Row (Plain X) (l ∷ ls) none
+pub plain-of : (X hi : ℕ) (l : LogicalPartition) (ls : List LogicalPartition) → at l ≡ X → hi < 2 ^ 32 → Row (Fit hi) (l ∷ ls) none → Row (Plain X) (l ∷ ls) none
 plain-of X hi l ls e h f =
     row-zip (λ x n. Fit hi x n × Over X x n) (Under hi) (Plain X)
     (λ x n p q. record { inside = p .1; after = p .0 .start; fits = omega (arith, p .0 .cover); before = before-fit hi x n (p .0) })

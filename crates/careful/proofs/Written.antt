@@ -30,7 +30,7 @@ use Rattle.table.specs.declared.LogicalPartition.{LogicalPartition}
 use Rattle.chain.specs.Chain.{view, Link, linkOf}
 use Rattle.chain.specs.Facts.{Body, Next, stop, to, View, ebr, nextOf, bodyIn, viewed, seen, at, start, bodyOf, leads, Held}
 use Rattle.chain.proofs.View.{view→facts, view-inside, view-same, Seen, seen→view}
-use Rattle.careful.specs.Stores.{linkEntry, ebrFor, write}
+use Rattle.links.specs.Links.{linkEntry, ebrFor, write}
 use Rattle.careful.specs.Demand3.{Whole}
 use Rattle.careful.proofs.Places.{Fit, Off, off-under, off-over}
 

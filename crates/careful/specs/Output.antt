@@ -4,7 +4,7 @@ use mathlib.Core.List.{List, [], _∷_, _++_}
 use lib.ListN.{length, take, drop}
 use Rattle.base.specs.Bytes.{number, bytesOf, little}
 use Rattle.base.specs.Put.{put}
-use Rattle.base.specs.Said.{Said, gives, refuses}
+use Rattle.base.specs.Said.{Said, gives, refuses, andThen}
 use Rattle.extract.specs.Disk.{Store}
 use Rattle.careful.specs.Careful.{Change}
 
@@ -29,3 +29,6 @@ outAfter out (gives c) = put out 0 (storesBytes (c .stores))
 -- the number of stores
 abbrev pub countOf : Change → ℕ
 countOf c = length (c .stores)
+
+abbrev pub counted : Said Change → Said ℕ
+counted s = andThen s (λ c. gives (countOf c))

@@ -1,57 +1,16 @@
--- An EBR as a store; the first-place rule; the stores of a push and of a removal. Assumes nothing.
+-- The first-place rule; the stores of a push and of a removal. Assumes nothing.
 use Prim.Native.Nat.{ℕ, zero, suc, _+_}
 use mathlib.Core.Option.{Option, none, some}
 use mathlib.Core.List.{List, [], _∷_, _++_}
 use lib.ListN.{take, drop}
 use Rattle.base.specs.Row.{next}
-use Rattle.chs.specs.declared.CHS.{CHS}
-use Rattle.chs.specs.Chs.{noChs}
 use Rattle.entry.specs.declared.MBRPartitionEntry.{MBRPartitionEntry}
-use Rattle.entry.specs.Entry.{noEntry}
-use Rattle.ebr.specs.declared.EBRHeader.{EBRHeader}
-use Rattle.ebr.specs.Ebr.{ebrBytes}
 use Rattle.extract.specs.Disk.{Store}
 use Rattle.extract.specs.Extract.{blank}
-use Rattle.table.specs.declared.MaybeSectors.{MaybeSectors}
-use Rattle.table.specs.declared.MaybeSectors.the-variants.{Absent, Present}
-use Rattle.table.specs.declared.MaybeChs.{MaybeChs}
-use Rattle.table.specs.declared.MaybeChs.the-variants.{Absent as NoChs, Present as SomeChs}
+use Rattle.table.specs.declared.MaybeSectors.the-variants.{Absent}
+use Rattle.table.specs.declared.MaybeChs.the-variants.{Absent as NoChs}
 use Rattle.table.specs.declared.LogicalPartition.{LogicalPartition}
-use Rattle.chain.specs.Facts.{Next, stop, to, at, bodyOf, leads}
-
-abbrev pub sectorsOr0 : MaybeSectors → ℕ
-sectorsOr0 Absent = 0
-sectorsOr0 (Present n) = n
-
-abbrev pub chsOrNo : MaybeChs → CHS
-chsOrNo NoChs = noChs
-chsOrNo (SomeChs c) = c
-
--- a written link has flag 00 and the extended entry's type; an ending one is 16 zeros
-unfoldable pub linkEntry : ℕ → Next → MBRPartitionEntry
-linkEntry sys stop = noEntry
-linkEntry sys (to r k) =
-    record {
-      boot = 0;
-      «first_chs» = k .first;
-      sys = sys;
-      «last_chs» = chsOrNo (k .last);
-      «starting_lba» = r;
-      sectors = sectorsOr0 (k .sectors);
-    }
-
--- the EBR of l, before n, in the extended entry e
-unfoldable pub ebrFor : MBRPartitionEntry → LogicalPartition → Option LogicalPartition → EBRHeader
-ebrFor e l n =
-    record {
-      kept = bodyOf l .kept;
-      «partition_1» = bodyOf l .part;
-      «partition_2» = linkEntry (e .sys) (leads (e .«starting_lba») n);
-    }
-
--- it as a store
-unfoldable pub write : MBRPartitionEntry → LogicalPartition → Option LogicalPartition → Store
-write e l n = record { lba = at l; bytes = ebrBytes (ebrFor e l n) }
+use Rattle.links.specs.Links.{write}
 
 -- 512 zeros at X
 unfoldable pub wipe : MBRPartitionEntry → Store

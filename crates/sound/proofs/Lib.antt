@@ -2,4 +2,3 @@ pub mod Is
 pub mod Test
 pub mod Good
 pub mod Walk
-pub mod Said

@@ -1,4 +1,3 @@
 pub mod Is
 pub mod Sound
 pub mod Walk
-pub mod Said

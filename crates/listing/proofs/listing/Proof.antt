@@ -1,4 +1,5 @@
-use Rattle.listing.proofs.Said.{listing-refused, listing-table, says-few}
+use Rattle.listing.proofs.Said.{listing-refused, listing-table}
+use Rattle.read.proofs.Facts.{says-few}
 use Rattle.listing.specs.Listing.{tableText}
 use Rattle.extract.specs.Answers.{outcomeSaid}
 use borrow.Author.Tests.{lt-leb, le-leb}

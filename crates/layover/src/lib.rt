@@ -18,7 +18,7 @@ pub enum Laid {
 }
 
 // The header of an extract of n records.
-fn put_header(out: &mut [u8], size: u32, disk: u32, n: usize)
+pub fn put_header(out: &mut [u8], size: u32, disk: u32, n: usize)
     requires { ⌜ (n ≤ 64) × (24 ≤ length (now out)) ⌝ }
     ensures { λ _. ⌜ now (out .exit) ≡ put (now (out .entry)) 0 (headerBytes size disk n) ⌝ }
 {

@@ -1,0 +1,79 @@
+-- The logical partitions as writing leaves them, and the refusals of their geometry and of each EBR. Assumes nothing.
+use Prim.Native.Nat.{ℕ}
+use mathlib.Core.List.{List, [], _∷_, _++_, map}
+use mathlib.Core.Bool.{Bool, true, false, _&&_}
+use mathlib.Core.Option.{Option, none, some}
+use lib.Dec.{ltb}
+use lib.ListN.{drop}
+use Rattle.base.specs.Pick.{pick}
+use Rattle.base.specs.Checks.{Check, _!_}
+use Rattle.base.specs.Row.{next}
+use Rattle.entry.specs.Entry.{flagOk}
+use Rattle.table.specs.declared.MaybeSectors.{MaybeSectors}
+use Rattle.table.specs.declared.MaybeSectors.the-variants.{Absent, Present}
+use Rattle.table.specs.declared.MaybeChs.{MaybeChs}
+use Rattle.table.specs.declared.MaybeChs.the-variants.{Absent as NoChs, Present as SomeChs}
+use Rattle.table.specs.declared.LogicalPartition.{LogicalPartition}
+use Rattle.table.specs.declared.MBR.{MBR}
+use Rattle.table.specs.Table.{withLogicals}
+use Rattle.chain.specs.Facts.{at}
+use Rattle.push.specs.declared.Geometry.{Geometry}
+use Rattle.push.specs.Address.{complete, updateChecks, addressed}
+
+-- the EBR at X, without link sectors and last link CHS
+unfoldable pub atStart : ℕ → LogicalPartition → LogicalPartition
+atStart X l =
+    record {
+      partition = l .partition;
+      «absolute_ebr_lba» = record { 0 = X };
+      «ebr_sectors» = Absent;
+      «ebr_first_chs» = l .«ebr_first_chs»;
+      «ebr_last_chs» = NoChs;
+      kept = l .kept;
+    }
+
+-- so is the first logical partition
+unfoldable pub firstAt : ℕ → List LogicalPartition → List LogicalPartition
+firstAt X [] = []
+firstAt X (l ∷ ls) = atStart X l ∷ ls
+
+-- with its four addresses, if the geometry is complete; else as it is
+abbrev pub byGeometry : Geometry → LogicalPartition → LogicalPartition
+byGeometry g l = pick (complete g) (addressed g l) l
+
+-- the refusals of the addresses, one logical partition after the other
+unfoldable pub allGeometry : Geometry → List LogicalPartition → List Check
+allGeometry g [] = []
+allGeometry g (l ∷ ls) = pick (complete g) (updateChecks g l) [] ++ allGeometry g ls
+
+-- the logical partitions as writing leaves them
+unfoldable pub settled : Geometry → ℕ → List LogicalPartition → List LogicalPartition
+settled g X ls = map (byGeometry g) (firstAt X ls)
+
+-- link sectors and last link CHS are there
+abbrev pub linkThere : MaybeSectors → MaybeChs → Bool
+linkThere Absent c = false
+linkThere (Present n) NoChs = false
+linkThere (Present n) (SomeChs c) = true
+
+-- what follows, if anything does, has its link fields
+abbrev pub linked : Option LogicalPartition → Bool
+linked none = true
+linked (some m) = linkThere (m .«ebr_sectors») (m .«ebr_last_chs»)
+
+-- flag 4, EBR at or past the end of d sectors 2, the next lacks its link fields 18
+abbrev pub rowChecks : ℕ → LogicalPartition → Bool → List Check
+rowChecks d l follows = (4 ! flagOk (l .partition)) ∷ (2 ! ltb (at l) d) ∷ (18 ! follows) ∷ []
+
+-- one logical partition after the other
+unfoldable pub allRows : ℕ → List LogicalPartition → List Check
+allRows d [] = []
+allRows d (l ∷ ls) = rowChecks d l (linked (next ls none)) ++ allRows d ls
+
+-- the table with other logical partitions, as many, in front of its unused slots
+abbrev pub relisted : MBR → List LogicalPartition → MBR
+relisted t ls = withLogicals t (ls ++ drop (t .count) (t .«logical_partitions»)) (t .count)
+
+-- all refusals of logical partitions in an extended entry that starts at X: geometry first
+unfoldable pub settleChecks : Geometry → ℕ → ℕ → List LogicalPartition → List Check
+settleChecks g X d ls = allGeometry g (firstAt X ls) ++ allRows d (settled g X ls)

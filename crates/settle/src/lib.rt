@@ -1,0 +1,173 @@
+// The logical partitions of a table as writing leaves them, and what writing refuses of them.
+use base::Answer;
+use push::Geometry;
+use table::DiskLba;
+use table::LogicalPartition;
+use table::MBR;
+use table::MaybeChs;
+use table::MaybeSectors;
+ghost use mathlib.Core.Path.{_≡_};
+ghost use mathlib.Core.Option.{none, some};
+ghost use mathlib.Core.List.{map};
+ghost use Prim.Native.Nat.{_≤_};
+ghost use lib.ListN.{drop};
+ghost use Rattle.base.specs.Said.{refusal};
+ghost use Rattle.base.specs.Checks.{first-fail};
+ghost use Rattle.base.specs.Row.{next};
+ghost use Rattle.table.specs.Table.{logicals};
+ghost use Rattle.push.specs.Push.{geometryOf};
+ghost use Rattle.settle.specs.Settle.{atStart, firstAt, byGeometry, allGeometry, settled, linkThere, linked, rowChecks, allRows, relisted, settleChecks};
+
+// A table, and what the call says beside it.
+pub struct Settled {
+    pub answer: Answer,
+    pub table: MBR,
+}
+
+// The EBR at a place, without link sectors and last link CHS.
+fn at_start(x: u32, l: LogicalPartition) -> LogicalPartition
+    ensures { λ r. ⌜ r ≡ atStart x l ⌝ }
+{
+    let p = l.partition;
+    let first = l.ebr_first_chs;
+    let kept = l.kept;
+    LogicalPartition {
+        partition: p,
+        absolute_ebr_lba: DiskLba(x),
+        ebr_sectors: MaybeSectors::Absent,
+        ebr_first_chs: first,
+        ebr_last_chs: MaybeChs::Absent,
+        kept: kept,
+    }
+}
+
+// The table whose first logical partition's EBR is there.
+fn first_place(t: MBR, x: u32) -> MBR
+    requires { ⌜ t .count ≤ 24 ⌝ }
+    ensures { λ r. ⌜ r ≡ relisted t (firstAt x (logicals t)) ⌝ }
+{
+    if t.count == 0 {
+        return t;
+    }
+    let l = t.logical_partitions[0];
+    let f = at_start(x, l);
+    let mut u = t;
+    u.logical_partitions[0] = f;
+    u
+}
+
+// The table with the addresses of each logical partition, if its geometry is complete.
+fn addresses(t: MBR) -> Settled
+    requires { ⌜ t .count ≤ 24 ⌝ }
+    ensures { λ r. ⌜ refusal (r .answer) ≡ first-fail (allGeometry (geometryOf t) (logicals t)) ⌝ }
+    ensures { λ r. ⌜ (refusal (r .answer) ≡ none → r .table ≡ relisted t (map (byGeometry (geometryOf t)) (logicals t))) ⌝ }
+{
+    let g = Geometry {
+        cylinders: t.cylinders,
+        heads: t.heads,
+        sectors: t.sectors,
+    };
+    let n = t.count;
+    let mut u = t;
+    for i in 0..n {
+        let l = t.logical_partitions[i];
+        let v = push::with_geometry(g, l);
+        let a = v.answer;
+        if let Answer::Refused(k) = a {
+            return Settled {
+                answer: Answer::Refused(k),
+                table: t,
+            };
+        }
+        let m = v.logical;
+        u.logical_partitions[i] = m;
+    }
+    Settled {
+        answer: Answer::Done,
+        table: u,
+    }
+}
+
+// Are link sectors and last link CHS there?
+fn has_link(sectors: MaybeSectors, last: MaybeChs) -> bool
+    ensures { λ r. ⌜ r ≡ linkThere sectors last ⌝ }
+{
+    match sectors {
+        MaybeSectors::Absent => false,
+        MaybeSectors::Present(_) => match last {
+            MaybeChs::Absent => false,
+            MaybeChs::Present(_) => true,
+        },
+    }
+}
+
+// Has the logical partition at a place its link fields, if there is one?
+fn linked_at(t: MBR, i: usize) -> bool
+    requires { ⌜ t .count ≤ 24 ⌝ }
+    ensures { λ r. ⌜ r ≡ linked (next (drop i (logicals t)) none) ⌝ }
+{
+    if t.count <= i {
+        return true;
+    }
+    let l = t.logical_partitions[i];
+    let sectors = l.ebr_sectors;
+    let last = l.ebr_last_chs;
+    has_link(sectors, last)
+}
+
+// Flag 4, EBR at or past the end 2, the next lacks its link fields 18.
+fn row(l: LogicalPartition, d: u32, follows: bool) -> Answer
+    ensures { λ r. ⌜ refusal r ≡ first-fail (rowChecks d l follows) ⌝ }
+{
+    let p = l.partition;
+    if !p.check() {
+        return Answer::Refused(4);
+    }
+    let at = l.absolute_ebr_lba;
+    if d <= at.0 {
+        return Answer::Refused(2);
+    }
+    if !follows {
+        return Answer::Refused(18);
+    }
+    Answer::Done
+}
+
+// One logical partition after the other.
+fn rows(t: MBR, d: u32) -> Answer
+    requires { ⌜ t .count ≤ 24 ⌝ }
+    ensures { λ r. ⌜ refusal r ≡ first-fail (allRows d (logicals t)) ⌝ }
+{
+    let n = t.count;
+    for i in 0..n {
+        let l = t.logical_partitions[i];
+        let follows = linked_at(t, i + 1);
+        let a = row(l, d, follows);
+        if let Answer::Refused(k) = a {
+            return Answer::Refused(k);
+        }
+    }
+    Answer::Done
+}
+
+// The table as writing leaves it, for an extended entry that starts at x on a disk of d sectors; a refusal's table means nothing.
+pub fn settle(t: MBR, x: u32, d: u32) -> Settled
+    requires { ⌜ t .count ≤ 24 ⌝ }
+    ensures { λ r. ⌜ refusal (r .answer) ≡ first-fail (settleChecks (geometryOf t) x d (logicals t)) ⌝ }
+    ensures { λ r. ⌜ (refusal (r .answer) ≡ none → r .table ≡ relisted t (settled (geometryOf t) x (logicals t))) ⌝ }
+{
+    let u = first_place(t, x);
+    let v = addresses(u);
+    let a = v.answer;
+    match a {
+        Answer::Refused(k) => v,
+        Answer::Done => {
+            let w = v.table;
+            let b = rows(w, d);
+            Settled {
+                answer: b,
+                table: w,
+            }
+        }
+    }
+}

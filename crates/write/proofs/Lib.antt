@@ -1,0 +1,5 @@
+pub mod Laws
+pub mod Told
+pub mod Steps
+pub mod Over
+pub mod Ranges

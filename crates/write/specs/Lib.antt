@@ -1,0 +1,3 @@
+pub mod Write
+pub mod Answers
+pub mod Sources

@@ -1,0 +1,311 @@
+-- What a careful change answers: refusals in their order, else its stores. Assumes nothing.
+use mathlib.Core.Path.{_≡_, refl, ap, sym, subst, _∙_}
+use mathlib.Core.Bool.{Bool, true, false}
+use mathlib.Core.Option.{Option, none, some}
+use mathlib.Core.List.{List, [], _∷_, _++_, append-nil}
+use Prim.Native.Nat.{ℕ, _+_, _*_, _≤_, _<_}
+use native.Mathlib.Omega.{arith}
+use lib.Dec.{leb}
+use lib.ListN.{length, length-append}
+use borrow.Author.Tests.{le-leb, lt-leb, leb-true, eq-eqb, ne-eqb}
+use Rattle.base.specs.Bytes.{bytesOf, little}
+use Rattle.base.specs.Pick.{pick}
+use Rattle.base.specs.Put.{put}
+use Rattle.base.specs.Said.{Said, gives, refuses, andThen, failure}
+use Rattle.base.specs.Checks.{Check, _!_, checked, answer, first-fail, AllHold}
+use Rattle.base.proofs.Bytes.{length-bytesOf}
+use Rattle.base.proofs.Checks.{onFail, checked-fail, checked-some, checked-none, checked-append, append-fails, append-holds, none-fails, hold-right}
+use Rattle.base.proofs.Put.{behind}
+use Rattle.entry.specs.declared.MBRPartitionEntry.{MBRPartitionEntry}
+use Rattle.entry.specs.Entry.{noEntry, endOf}
+use Rattle.ebr.specs.declared.EBRHeader.{EBRHeader}
+use Rattle.ebr.specs.Ebr.{ebrBytes}
+use Rattle.extract.specs.Disk.{Store}
+use Rattle.extract.specs.Extract.{diskOf}
+use Rattle.extract.specs.Answers.{checkSays}
+use Rattle.extract.specs.declared.Extract.{Extract}
+use Rattle.table.specs.declared.LogicalPartition.{LogicalPartition}
+use Rattle.table.specs.declared.MBR.{MBR}
+use Rattle.chain.specs.Facts.{at}
+use Rattle.read.specs.Read.{Table, read, readSays, tableOf, tableFor}
+use Rattle.push.specs.declared.Request.{Request}
+use Rattle.push.specs.Push.{placeOf, sizeOf, fresh, newLogical, laterThan, roundChecks, placeChecks, pushChecks}
+use Rattle.push.specs.Address.{complete, addressed}
+use Rattle.push.proofs.Steps.{and-answer}
+use Rattle.sound.specs.Sound.{Contents, contentsOf, extendedIn, areaEnd, end, soundb}
+use Rattle.links.specs.Links.{ebrWith, write}
+use Rattle.careful.specs.Stores.{moved}
+use Rattle.careful.specs.Careful.{contents, Change, roomNeeded, askChecks, lastEnd, spaceChecks, pushRefusals, pushChange, carefulPush, carefulPushSays}
+use Rattle.careful.specs.Output.{storeBytes, storesBytes, outAfter, countOf, counted}
+use Rattle.careful.proofs.Accepted.{place-hold}
+use Rattle.careful.proofs.Crate.{slots-front}
+use Rattle.change.specs.declared.Changed.{Changed}
+use Rattle.change.specs.declared.Changed.the-variants.{Stores, Refused}
+use Rattle.change.specs.Change.{changedSaid, Tells, linkTo, linked, lastIn, spaceBehind, storesBehind, checksBehind}
+use Rattle.change.proofs.Lists.{link-none, write-linked, stores-behind}
+
+-- what an answer says determines it
+pub changed-injective : (a b : Changed) → changedSaid a ≡ changedSaid b → a ≡ b
+changed-injective (Stores n) (Stores m) h =
+    let q : n ≡ m = cc in
+    ap Stores q
+changed-injective (Stores n) (Refused k) h = let w : _≡_ {A = ℕ} 0 1 = cc in absurd (omega arith)
+changed-injective (Refused k) (Stores n) h = let w : _≡_ {A = ℕ} 0 1 = cc in absurd (omega arith)
+changed-injective (Refused k) (Refused j) h =
+    let q : k ≡ j = cc in
+    ap Refused q
+
+-- a store is written: its LBA, then its record
+pub store-written : (d d₁ d₂ : List ℕ) (i : ℕ) (s : Store) → length (s .bytes) ≡ 512 → i + 516 ≤ length d
+    → d₁ ≡ put d i (bytesOf little 4 (s .lba)) → d₂ ≡ put d₁ (i + 4) (s .bytes)
+    → (d₂ ≡ put d i (storeBytes s)) × (length (storeBytes s) ≡ 516)
+unfolding storeBytes
+store-written d d₁ d₂ i s n h e f =
+    let lba = bytesOf little 4 (s .lba) in (
+      behind d d₁ d₂ i 4 lba (s .bytes) (length-bytesOf little 4 (s .lba)) (omega arith) e f,
+      length-append lba (s .bytes) ∙ rw (length-bytesOf little 4 (s .lba), n),
+    )
+
+pub ebr-long : (h : EBRHeader) → length (h .kept .«bootstrap_code») ≡ 446 → length (ebrBytes h) ≡ 512
+unfolding ebrBytes
+ebr-long h n = simp (length-append, n)
+
+-- the EBR of a logical partition is written
+pub ebr-written : (d d₁ d₂ : List ℕ) (i : ℕ) (l : LogicalPartition) (h : EBRHeader) (link : MBRPartitionEntry) → h ≡ ebrWith l link
+    → length (l .kept .«bootstrap_code») ≡ 446 → i + 516 ≤ length d → d₁ ≡ put d i (bytesOf little 4 (at l)) → d₂ ≡ put d₁ (i + 4) (ebrBytes h)
+    → (d₂ ≡ put d i (storeBytes (linked l link))) × (length (storeBytes (linked l link)) ≡ 516)
+ebr-written d d₁ d₂ i l h link o n k e f =
+    store-written d d₁ d₂ i (linked l link) (ebr-long (ebrWith l link) n) k e (f ∙ ap (λ (x : EBRHeader). put d₁ (i + 4) (ebrBytes x)) o)
+
+-- one store, and two
+pub one-store : (d : List ℕ) (s : Store) → put d 0 (storeBytes s) ≡ put d 0 (storesBytes (s ∷ []))
+unfolding storesBytes
+one-store d s = ap (put d 0) (sym (append-nil (storeBytes s)))
+
+pub two-stores : (d d₁ d₂ : List ℕ) (s u : Store) → length (storeBytes s) ≡ 516 → 1032 ≤ length d → d₁ ≡ put d 0 (storeBytes s) → d₂ ≡ put d₁ 516 (storeBytes u)
+    → d₂ ≡ put d 0 (storesBytes (s ∷ u ∷ []))
+unfolding storesBytes
+two-stores d d₁ d₂ s u n h e f =
+    behind d d₁ d₂ 0 516 (storeBytes s) (storeBytes u) n (omega arith) e f ∙ ap (λ (l : List ℕ). put d 0 (storeBytes s ++ l)) (sym (append-nil (storeBytes u)))
+
+-- what is written for a first partition, and for a later one
+module _ (d : List ℕ) (e : MBRPartitionEntry) (n : ℕ) (last new : LogicalPartition) (end : MBRPartitionEntry) (none-end : end ≡ noEntry) where
+  ends : (l : LogicalPartition) → linked l end ≡ write e l none
+  ends l = ap (linked l) (none-end ∙ sym (link-none e)) ∙ sym (write-linked e l none)
+
+  pub first-stored : (d₁ : List ℕ) (first : LogicalPartition) → n ≡ 0 → first ≡ moved e new → d₁ ≡ put d 0 (storeBytes (linked first end))
+      → (gives 1 ≡ gives (length (storesBehind e n last new))) × (d₁ ≡ put d 0 (storesBytes (storesBehind e n last new)))
+  first-stored d₁ first z m w =
+      rw (eq-eqb n 0 z)
+      (refl, w ∙ ap (λ (s : Store). put d 0 (storeBytes s)) (ap (λ (l : LogicalPartition). linked l end) m ∙ ends (moved e new)) ∙ one-store d (write e (moved e new) none))
+
+  pub later-stored : (d₁ d₂ : List ℕ) (link : MBRPartitionEntry) → (n ≡ 0 → ⊥) → link ≡ linkTo e (some new) → 1032 ≤ length d
+      → (d₁ ≡ put d 0 (storeBytes (linked new end))) × (length (storeBytes (linked new end)) ≡ 516) → d₂ ≡ put d₁ 516 (storeBytes (linked last link))
+      → (gives 2 ≡ gives (length (storesBehind e n last new))) × (d₂ ≡ put d 0 (storesBytes (storesBehind e n last new)))
+  later-stored d₁ d₂ link z k h w v =
+      let a : linked last link ≡ write e last (some new) = ap (linked last) k ∙ sym (write-linked e last (some new)) in
+      rw (ne-eqb n 0 z) (
+        refl,
+        two-stores d d₁ d₂ (linked new end) (linked last link) (w .1) h (w .0) v
+            ∙ ap (λ (s : Store). put d 0 (storesBytes (s ∷ linked last link ∷ []))) (ends new)
+            ∙ ap (λ (s : Store). put d 0 (storesBytes (write e new none ∷ s ∷ []))) a,
+      )
+
+-- the first refusal decides
+checked-same : {A : Type 0} (cs ds : List Check) (deny : ℕ → A) (grant : A) → first-fail cs ≡ first-fail ds → checked cs deny grant ≡ checked ds deny grant
+checked-same cs ds deny grant e = checked-fail cs deny grant ∙ ap (λ (o : Option ℕ). onFail o deny grant) e ∙ sym (checked-fail ds deny grant)
+
+pub tells-refused : (old : List ℕ) (cs : List Check) (ss : List Store) (k : ℕ) → first-fail cs ≡ some k → Tells (Refused k) old old cs ss
+tells-refused old cs ss k e =
+    (sym (checked-some cs refuses (gives (length ss)) k e), sym (checked-some cs (λ j. old) (put old 0 (storesBytes ss)) k e))
+
+pub tells-stored : (r : Changed) (old new : List ℕ) (cs : List Check) (ss : List Store) → first-fail cs ≡ none → changedSaid r ≡ gives (length ss) → new ≡ put old 0 (storesBytes ss)
+    → Tells r old new cs ss
+tells-stored r old new cs ss e s w =
+    (s ∙ sym (checked-none cs refuses (gives (length ss)) e), w ∙ sym (checked-none cs (λ j. old) (put old 0 (storesBytes ss)) e))
+
+pub tells-same : (r : Changed) (old new : List ℕ) (cs ds : List Check) (ss us : List Store) → first-fail cs ≡ first-fail ds → ss ≡ us → Tells r old new ds us → Tells r old new cs ss
+tells-same r old new cs ds ss us e f t = (
+  t .0 ∙ ap (λ (z : List Store). answer ds (length z)) (sym f) ∙ sym (checked-same cs ds refuses (gives (length ss)) e),
+  t .1 ∙ ap (λ (z : List Store). checked ds (λ j. old) (put old 0 (storesBytes z))) (sym f) ∙ sym (checked-same cs ds (λ j. old) (put old 0 (storesBytes ss)) e),
+)
+
+-- from the refusals and stores to what a careful change says
+out-answer : (old : List ℕ) (cs : List Check) (ch : Change) → outAfter old (answer cs ch) ≡ checked cs (λ j. old) (put old 0 (storesBytes (ch .stores)))
+unfolding outAfter
+out-answer old [] ch = refl
+out-answer old (c ∷ cs) ch = go (c .holds) (out-answer old cs ch)
+  where
+    go : (b : Bool) → outAfter old (answer cs ch) ≡ checked cs (λ j. old) (put old 0 (storesBytes (ch .stores)))
+        → outAfter old (pick b (answer cs ch) (refuses (c .number))) ≡ pick b (checked cs (λ j. old) (put old 0 (storesBytes (ch .stores)))) old
+    go true ih = ih
+    go false ih = refl
+
+contents-of : (t : Table) → contentsOf (tableOf t) ≡ contents t
+unfolding tableOf
+contents-of t = λ i. record { width = t .width; size = t .size; header = t .header; logicals = slots-front (t .logicals) i }
+
+module _ (cs : Contents → List Check) (ch : Contents → Change) where
+  abbrev pub onRead : Said Table → Said Change
+  onRead s = andThen s (λ t. answer (cs (contents t)) (ch (contents t)))
+
+  pub read-refused : (s : Said Table) (old : List ℕ) (k : ℕ) → failure s ≡ some k → (refuses k ≡ counted (onRead s)) × (old ≡ outAfter old (onRead s))
+  unfolding outAfter
+  read-refused (gives t) old k h = let w : _≡_ {A = ℕ} 0 1 = cc in absurd (omega arith)
+  read-refused (refuses j) old k h =
+      let e : k ≡ j = cc in
+      (ap refuses e, refl)
+
+  pub read-told : (s : Said Table) (r : Changed) (old new : List ℕ) → failure s ≡ none → Tells r old new (cs (contentsOf (tableFor s))) (ch (contentsOf (tableFor s)) .stores)
+      → (changedSaid r ≡ counted (onRead s)) × (new ≡ outAfter old (onRead s))
+  read-told (refuses j) r old new h t = let w : _≡_ {A = ℕ} 0 1 = cc in absurd (omega arith)
+  read-told (gives t) r old new h w =
+      let u : Tells r old new (cs (contents t)) (ch (contents t) .stores) = subst (λ (c : Contents). Tells r old new (cs c) (ch c .stores)) (contents-of t) w in (
+        u .0 ∙ sym (and-answer (cs (contents t)) (ch (contents t)) (λ c. gives (countOf c))),
+        u .1 ∙ sym (out-answer old (cs (contents t)) (ch (contents t))),
+      )
+
+  pub on-extract : (x : List ℕ) (s : Said Extract) → andThen s (λ e. onRead (read (diskOf x))) ≡ onRead (andThen s (λ e. read (diskOf x)))
+  on-extract x (gives e) = refl
+  on-extract x (refuses k) = refl
+
+module _ (x : List ℕ) (room : ℕ) where
+  push-says : (q : Request) → onRead (pushRefusals room q) (pushChange q) (readSays x) ≡ carefulPushSays x room q
+  unfolding carefulPushSays carefulPush readSays
+  push-says q = sym (on-extract (pushRefusals room q) (pushChange q) x (checkSays x))
+
+  pub push-unread : (q : Request) (old : List ℕ) (k : ℕ) → failure (readSays x) ≡ some k
+      → (refuses k ≡ counted (carefulPushSays x room q)) × (old ≡ outAfter old (carefulPushSays x room q))
+  push-unread q old k h = rw (← push-says q) (read-refused (pushRefusals room q) (pushChange q) (readSays x) old k h)
+
+  pub push-read : (q : Request) (r : Changed) (old new : List ℕ) (t : MBR) → failure (readSays x) ≡ none → t ≡ tableFor (readSays x)
+      → Tells r old new (pushRefusals room q (contentsOf t)) (pushChange q (contentsOf t) .stores)
+      → (changedSaid r ≡ counted (carefulPushSays x room q)) × (new ≡ outAfter old (carefulPushSays x room q))
+  push-read q r old new t h e w =
+      rw (← push-says q)
+      (read-told (pushRefusals room q) (pushChange q) (readSays x) r old new h
+      (subst (λ (m : MBR). Tells r old new (pushRefusals room q (contentsOf m)) (pushChange q (contentsOf m) .stores)) e w))
+
+-- 12, 21, 19
+module _ (e : MBRPartitionEntry) (last new : LogicalPartition) (room : ℕ) where
+  pub space-12 : endOf e < endOf (new .partition) → first-fail (spaceBehind e last new room) ≡ some 12
+  unfolding end
+  space-12 h = rw (lt-leb (endOf (new .partition)) (endOf e) h)
+
+  pub space-21 : endOf (new .partition) ≤ endOf e → at new < endOf (last .partition) → first-fail (spaceBehind e last new room) ≡ some 21
+  unfolding end
+  space-21 h k = rw (le-leb (endOf (new .partition)) (endOf e) h, lt-leb (endOf (last .partition)) (at new) k)
+
+  pub space-19 : endOf (new .partition) ≤ endOf e → endOf (last .partition) ≤ at new → room < 1032 → first-fail (spaceBehind e last new room) ≡ some 19
+  unfolding end
+  space-19 h k l = rw (le-leb (endOf (new .partition)) (endOf e) h, le-leb (endOf (last .partition)) (at new) k, lt-leb 1032 room l)
+
+  pub space-holds : endOf (new .partition) ≤ endOf e → endOf (last .partition) ≤ at new → 1032 ≤ room → first-fail (spaceBehind e last new room) ≡ none
+  unfolding end
+  space-holds h k l = rw (le-leb (endOf (new .partition)) (endOf e) h, le-leb (endOf (last .partition)) (at new) k, le-leb 1032 room l)
+
+-- the new partition's place and end
+module _ (later : Bool) (q : Request) where
+  new-at : at (newLogical later q) ≡ placeOf q
+  unfolding newLogical addressed fresh
+  new-at = go (complete (q .geometry))
+    where
+      go : (b : Bool) → at (pick b (addressed (q .geometry) (fresh later q)) (fresh later q)) ≡ placeOf q
+      go true = refl
+      go false = refl
+
+  new-end : q .align ≤ sizeOf q → end (newLogical later q) ≡ placeOf q + sizeOf q
+  unfolding newLogical addressed fresh end
+  new-end h = go (complete (q .geometry))
+    where
+      go : (b : Bool) → end (pick b (addressed (q .geometry) (fresh later q)) (fresh later q)) ≡ placeOf q + sizeOf q
+      go true = omega arith
+      go false = omega arith
+
+size : (q : Request) (e : MBRPartitionEntry) → AllHold (placeChecks q e) → q .align ≤ sizeOf q
+unfolding placeChecks
+size q e p =
+    let b : 2 * q .align ≤ sizeOf q = leb-true (2 * q .align) (sizeOf q) (p .1 .0) in
+    omega arith
+
+-- push's refusals come before them
+module _ (room : ℕ) (q : Request) (e : MBRPartitionEntry) (n : ℕ) (last : LogicalPartition) where
+  pub behind-fails : (k : ℕ) → first-fail (pushChecks q (some e) n) ≡ some k → first-fail (checksBehind room q e n last) ≡ some k
+  behind-fails k h =
+      append-fails (pushChecks q (some e) n) ((12 ! leb (placeOf q + sizeOf q) (endOf e)) ∷ (21 ! leb (end last) (placeOf q)) ∷ (19 ! leb roomNeeded room) ∷ []) k some none h
+
+  pub behind-holds : (new : LogicalPartition) → first-fail (pushChecks q (some e) n) ≡ none → new ≡ newLogical (laterThan n) q
+      → first-fail (checksBehind room q e n last) ≡ first-fail (spaceBehind e last new room)
+  behind-holds new h m =
+      let a : AllHold (pushChecks q (some e) n) = none-fails (pushChecks q (some e) n) h in
+      let p : AllHold (placeChecks q e) = hold-right ((8 ! true) ∷ roundChecks q) (placeChecks q e) (place-hold q e n a) in
+      let s : q .align ≤ sizeOf q = size q e p in
+      append-holds (pushChecks q (some e) n) ((12 ! leb (placeOf q + sizeOf q) (endOf e)) ∷ (21 ! leb (end last) (placeOf q)) ∷ (19 ! leb roomNeeded room) ∷ []) some none a
+      ∙ ap (λ (i : ℕ). first-fail ((12 ! leb i (endOf e)) ∷ (21 ! leb (end last) (placeOf q)) ∷ (19 ! leb roomNeeded room) ∷ [])) (sym (new-end (laterThan n) q s))
+      ∙ ap (λ (i : ℕ). first-fail ((12 ! leb (end (newLogical (laterThan n) q)) (endOf e)) ∷ (21 ! leb (end last) i) ∷ (19 ! leb roomNeeded room) ∷ [])) (sym (new-at (laterThan n) q))
+      ∙ ap (λ (l : LogicalPartition). first-fail (spaceBehind e last l room)) (sym m)
+
+eight : (q : Request) (o : Option MBRPartitionEntry) (n : ℕ) → o ≡ none → first-fail (pushChecks q o n) ≡ some 8
+unfolding pushChecks
+eight q o n x = rw x
+
+last-end : (ls : List LogicalPartition) → lastEnd ls ≡ end (lastIn ls)
+unfolding lastEnd lastIn end
+last-end [] = refl
+last-end (l ∷ ls) = refl
+
+space-at : (q : Request) (t : Contents) (e : MBRPartitionEntry) → extendedIn t ≡ some e
+    → spaceChecks q t ≡ (12 ! leb (placeOf q + sizeOf q) (endOf e)) ∷ (21 ! leb (end (lastIn (t .logicals))) (placeOf q)) ∷ []
+unfolding spaceChecks areaEnd
+space-at q t e x = rw (x, last-end (t .logicals))
+
+-- 20, 23 and 8 of a careful push, and what is left
+module _ (room : ℕ) (q : Request) (t : Contents) where
+  abbrev asks : List Check
+  asks = (20 ! soundb t) ∷ askChecks q
+
+  abbrev pushes : List Check
+  pushes = pushChecks q (extendedIn t) (length (t .logicals))
+
+  abbrev room-check : List Check
+  room-check = (19 ! leb roomNeeded room) ∷ []
+
+  push-parts : first-fail (pushRefusals room q t) ≡ checked asks some (checked pushes some (checked (spaceChecks q t) some (first-fail room-check)))
+  unfolding pushRefusals
+  push-parts =
+      checked-append (asks ++ pushes ++ spaceChecks q t) room-check some none
+      ∙ checked-append (asks ++ pushes) (spaceChecks q t) some (first-fail room-check)
+      ∙ checked-append asks pushes some (checked (spaceChecks q t) some (first-fail room-check))
+
+  pub push-20 : soundb t ≡ false → first-fail (pushRefusals room q t) ≡ some 20
+  push-20 h = push-parts ∙ rw h
+
+  pub push-23 : soundb t ≡ true → first-fail (askChecks q) ≡ some 23 → first-fail (pushRefusals room q t) ≡ some 23
+  push-23 h a = push-parts ∙ rw h (checked-some (askChecks q) some (checked pushes some (checked (spaceChecks q t) some (first-fail room-check))) 23 a)
+
+  module _ (h : soundb t ≡ true) (a : first-fail (askChecks q) ≡ none) where
+    push-asked : first-fail (pushRefusals room q t) ≡ checked pushes some (checked (spaceChecks q t) some (first-fail room-check))
+    push-asked = push-parts ∙ rw h (checked-none (askChecks q) some (checked pushes some (checked (spaceChecks q t) some (first-fail room-check))) a)
+
+    pub push-8 : extendedIn t ≡ none → first-fail (pushRefusals room q t) ≡ some 8
+    push-8 x = push-asked ∙ checked-some pushes some (checked (spaceChecks q t) some (first-fail room-check)) 8 (eight q (extendedIn t) (length (t .logicals)) x)
+
+    push-behind : (e : MBRPartitionEntry) (n : ℕ) → extendedIn t ≡ some e → length (t .logicals) ≡ n
+        → first-fail (pushRefusals room q t) ≡ first-fail (checksBehind room q e n (lastIn (t .logicals)))
+    push-behind e n x l =
+        push-asked ∙ rw (x, l, space-at q t e x)
+        (sym (checked-append (pushChecks q (some e) n) ((12 ! leb (placeOf q + sizeOf q) (endOf e)) ∷ (21 ! leb (end (lastIn (t .logicals))) (placeOf q)) ∷ room-check) some none))
+
+  push-stores : (e : MBRPartitionEntry) (n : ℕ) → extendedIn t ≡ some e → length (t .logicals) ≡ n
+      → pushChange q t .stores ≡ storesBehind e n (lastIn (t .logicals)) (newLogical (laterThan n) q)
+  unfolding pushChange
+  push-stores e n x l = rw (x, ← l) (stores-behind e (t .logicals) (newLogical (laterThan (length (t .logicals))) q))
+
+  pub push-told : soundb t ≡ true → first-fail (askChecks q) ≡ none → (e : MBRPartitionEntry) (n : ℕ) → extendedIn t ≡ some e → length (t .logicals) ≡ n
+      → (last : LogicalPartition) → last ≡ lastIn (t .logicals) → (r : Changed) (old new : List ℕ)
+      → Tells r old new (checksBehind room q e n last) (storesBehind e n last (newLogical (laterThan n) q)) → Tells r old new (pushRefusals room q t) (pushChange q t .stores)
+  push-told h a e n x l last m r old new w =
+      let ls = lastIn (t .logicals) in
+      let g = newLogical (laterThan n) q in
+      tells-same r old new (pushRefusals room q t) (checksBehind room q e n ls) (pushChange q t .stores) (storesBehind e n ls g) (push-behind h a e n x l) (push-stores e n x l)
+      (subst (λ (y : LogicalPartition). Tells r old new (checksBehind room q e n y) (storesBehind e n y g)) m w)

@@ -1,0 +1,11 @@
+use mathlib.Core.Path.{refl}
+use Rattle.careful.specs.Stores.{moved}
+use Rattle.change.proofs.move_first.Statement.{statement}
+use Rattle.change.proofs.move_first.Tie as tie
+
+returns : tie.Need-returns
+unfolding moved
+returns c = refl
+
+pub move-first-spec : {M : Type 1} → statement M
+move-first-spec = tie.close (tie.spec returns)

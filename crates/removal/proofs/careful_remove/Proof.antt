@@ -1,0 +1,49 @@
+use mathlib.Core.Path.{sym, ap, _∙_}
+use Rattle.read.proofs.Facts.{says-few}
+use Rattle.extract.specs.Answers.{outcomeSaid}
+use lib.ListN.{length}
+use Rattle.removal.proofs.Laws.{remove-unread, remove-read}
+use borrow.Author.Needs.{needs}
+use Rattle.removal.proofs.careful_remove.Statement.{statement}
+use Rattle.removal.proofs.careful_remove.Tie as tie
+
+read-from-requires : tie.Need-read-from-requires
+read-from-requires c κs = search needs
+
+enum-known-answer : tie.Need-enum-known-answer
+enum-known-answer c = search needs
+
+enum-told : tie.Need-enum-told
+enum-told c = search needs
+
+remove-on-requires : tie.Need-remove-on-requires
+remove-on-requires c κs =
+    let f = says-few (c .before .before .before .before .before .before .before .args .x .now) in
+    rw (c .before .before .before .before .read-from .ensures .1) f
+
+returns : tie.Need-returns
+returns c =
+    let a = c .before .before .before .before .before .before .args in
+    let h = sym (c .before .before .before .read-from .ensures .0) ∙ ap outcomeSaid (c .before .answer .given .1) in
+    remove-unread (a .x .now) (length (a .out .now)) (a .number) (a .out .now) _ h
+
+same-length : tie.Need-same-length
+same-length c = search needs
+
+returns-2 : tie.Need-returns-2
+returns-2 c =
+    let a = c .before .before .before .before .before .before .before .before .before .before .args in
+    let h = sym (c .before .before .before .before .before .before .before .read-from .ensures .0) ∙ ap outcomeSaid (c .before .before .before .before .before .enum-told .given .1) in
+    remove-read (a .x .now) (length (a .out .now)) (a .number) (c .before .before .remove-on .result) (a .out .now) _ _ h (c .before .before .before .before .before .before .before .read-from .ensures .1) (c .before .before .remove-on .ensures)
+
+pub careful-remove-spec : {M : Type 1} → statement M
+careful-remove-spec =
+    tie.close
+    (tie.spec
+    read-from-requires
+    enum-known-answer
+    enum-told
+    remove-on-requires
+    returns
+    same-length
+    returns-2)

@@ -19,6 +19,7 @@ use Rattle.table.specs.declared.MBR.{MBR}
 use Rattle.free.specs.declared.Run.{Run}
 use Rattle.free.specs.Free.{free}
 use Rattle.place.specs.Place.{firstPlace, lastPlace}
+use Rattle.careful.specs.DiskK.{entry, onK}
 
 -- equal lists
 abbrev pub same : List ℕ → List ℕ → Bool
@@ -40,10 +41,6 @@ at (refuses k) d = false
 abbrev pub no : {A : Type 0} → Said A → ℕ → Bool
 no (gives a) k = false
 no (refuses j) k = eqb j k
-
--- a used entry
-abbrev pub entry : ℕ → ℕ → ℕ → MBRPartitionEntry
-entry sys start n = record { boot = 0; «first_chs» = noChs; sys = sys; «last_chs» = noChs; «starting_lba» = start; sectors = n }
 
 -- a logical partition with its EBR's place
 abbrev pub logical : ℕ → MBRPartitionEntry → LogicalPartition
@@ -132,6 +129,8 @@ rows =
     ∷ placed (lastPlace disk10000 1000) (8192 ∷ [])
     ∷ placed (firstPlace disk10000 5905) []
     ∷ runs (free diskK) (2048 ∷ 2048 ∷ 6144 ∷ 4096 ∷ 12288 ∷ 8192 ∷ [])
+    -- careful push on K: not refused, stores at 8,192, then 4,096
+    ∷ same (onK 8192 4096) (0 ∷ 8192 ∷ 4096 ∷ [])
     ∷ []
 
 -- every row holds

@@ -386,6 +386,106 @@ def most_for(s, *numbers):
     return str(m.get_maximum_partition_size_for(handed_in(s.x, *numbers[:6]), numbers[6]))
 
 
+# ---------------------------------------------------------------- the two forms that take a reference
+
+
+def free_into(s, *numbers):
+    """Thirty equal runs are lent: the answer, then start and length of each afterwards."""
+    t = handed_in(s.x, *numbers[:6])
+    lent = [tuple(numbers[6:8])] * 30
+    try:
+        runs = [tuple(run) for run in m.free_runs(t)]
+        said, lent = str(len(runs)), runs + lent[len(runs):]
+    except Refusal as r:
+        said = f"refused {r.number}"
+    return " ".join([said, *(str(n) for run in lent for n in run)])
+
+
+def update_lent(s, *numbers):
+    """The logical partition of a place from 0 on is lent: the answer, then the partition afterwards."""
+    return update_chs(s, *numbers)
+
+
+# ---------------------------------------------------------------- writing
+
+
+ENTRY_FIELDS = {1: "boot", 2: "sys", 3: "starting_lba", 4: "sectors"}
+
+
+def edited_entry(e, name, value):
+    return replace(e, **{ENTRY_FIELDS[name]: value})
+
+
+def edited_logical(l, name, value):
+    if name in ENTRY_FIELDS:
+        return replace(l, partition=edited_entry(l.partition, name, value))
+    return replace(l, **{5: {"absolute_ebr_lba": value}, 6: {"ebr_sectors": value}, 7: {"ebr_sectors": None},
+                         8: {"ebr_last_chs": None}, 9: {"ebr_last_chs": l.ebr_first_chs}}[name])
+
+
+def edited(t, number, name, value):
+    """One edit: a partition's number (0 is the header's signature), a field and its value. Field 0 edits nothing."""
+    if name == 0:
+        return t
+    if number == 0:
+        return replace(t, header=replace(t.header, boot_signature=bytes([value % 256, value // 256])))
+    if number < 5:
+        return m.with_primary(t, number, edited_entry(t.header.entries[number - 1], name, value))
+    logicals = list(t.logicals)
+    logicals[number - 5] = edited_logical(logicals[number - 5], name, value)
+    return replace(t, logicals=tuple(logicals))
+
+
+def edited_in(s, numbers):
+    """The table and the old extract. The last bytes of X, so many, are the old extract; the table is read from what is
+    before, and up to four edits follow."""
+    end = max(0, len(s.x) - numbers[6])
+    t = handed_in(s.x[:end], *numbers[:6])
+    edits = numbers[7:]
+    if len(edits) % 3 or len(edits) > 12:
+        raise ValueError("an edit is three numbers, and there are at most four")
+    for at in range(0, len(edits), 3):
+        t = edited(t, *edits[at:at + 3])
+    return t, s.x[end:]
+
+
+def write_table(s, *numbers):
+    """What the call says, O, and the table, refused or not."""
+    t, old = edited_in(s, numbers)
+    after = t
+
+    def written():
+        nonlocal after
+        after, length = m.write_table(t, old, s.o)
+        return length
+
+    said = lent_out(s, written)
+    return f"{said} {table_text(after)}"
+
+
+def write_header(s, *numbers):
+    t, old = edited_in(s, numbers)
+    return lent_out(s, lambda: m.write_header_only(t.header, old, s.o))
+
+
+def read_o(s, length):
+    """The table that the first bytes of O, so many, read as."""
+    return table_text(m.read_table(bytes(s.o[:length])))
+
+
+# ---------------------------------------------------------------- careful changes
+
+
+def careful_push(s, align, cylinders, heads, sectors, *request):
+    """The number of stores, which are in O."""
+    geometry = m.Geometry(cylinders, heads, sectors)
+    return lent_out(s, lambda: len(m.careful_push(s.x, align, geometry, *request, s.o).stores))
+
+
+def careful_remove(s, number):
+    return lent_out(s, lambda: len(m.careful_removal(s.x, number, s.o).stores))
+
+
 CHANGES = {f.__name__: f for f in (x, xp, o)}
 COMMANDS = {f.__name__: f for f in (
     chs_new, chs_empty, chs_exact, chs_aligned, chs_to_lba, chs_is_empty, chs_is_valid, chs_to_bytes, chs_of_bytes,
@@ -395,7 +495,8 @@ COMMANDS = {f.__name__: f for f in (
     extract_check, extract_find, extract_place, extract_lay,
     read, read_header,
     get, find, remove, remove_at, check_geometry, cylinder_size, update_chs, push, push_all, new_from, update_from,
-    free, first_place, last_place, best_place, most, most_for)}
+    free, first_place, last_place, best_place, most, most_for,
+    free_into, update_lent, write_table, write_header, read_o, careful_push, careful_remove)}
 COMMANDS["len"] = len_
 
 

@@ -1,4 +1,7 @@
-"""Writes the extract of document 01's disk K, or with the word `listing` its listing, to standard output."""
+"""Writes the extract of document 01's disk K, or with the word `listing` its listing, to standard output.
+
+With the word `image` and a name it makes the disk itself as a file, most of it a hole.
+"""
 import sys
 
 import model as m
@@ -14,6 +17,17 @@ def disk_k() -> bytes:
     return m.extract_bytes(m.Disk(512, 20480, {0: m.header_bytes(header), 4096: m.ebr_bytes(ebr)}))
 
 
+def make_image(x: bytes, path: str) -> None:
+    disk = m.extract_disk(x)
+    with open(path, "wb") as image:
+        image.truncate(disk.disk_size * disk.sector_size)
+        for lba, record in disk.records.items():
+            image.seek(lba * disk.sector_size)
+            image.write(record)
+
+
 if __name__ == "__main__":
     x = disk_k()
+    if sys.argv[1:2] == ["image"]:
+        sys.exit(make_image(x, sys.argv[2]))
     sys.stdout.buffer.write(m.listing(x).encode() if sys.argv[1:] == ["listing"] else x)

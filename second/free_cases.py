@@ -156,7 +156,23 @@ def place_cases():
                 on_table(word, size, align=7)
 
 
+def lent_cases():
+    note("thirty lent runs, and a lent partition")
+    for x in TABLES[:12] + [FULL, one_extended(100, 100000, 24, step=50)]:
+        lend(x)
+        for align in (2048, 1, 0):
+            on_table("free_into", 7, 9, align=align)
+    on_table("free_into", BIG, BIG, align=1)
+    lend(FULL)
+    for handed in (24, 25):
+        on_table("free_into", 0, 1, align=1, handed=handed)
+    lend(chained(records_of(chain(3))))
+    for geometry in ((1023, 255, 63), (10, 2, 3), (1, 1, 1), (0, 0, 0), (65535, 255, 255), (866, 2, 3)):
+        for at in (0, 1, 2):
+            on_table("update_lent", at, geometry=geometry)
+
+
 if __name__ == "__main__":
-    for section in (free_cases, place_cases):
+    for section in (free_cases, place_cases, lent_cases):
         section()
     print("\n".join(c.lines))

@@ -6,6 +6,7 @@ Tables are values that never change, so a refusal leaves the given table as it w
 output is a bytearray that is written only once nothing can be refused any more.
 """
 from dataclasses import dataclass, field, replace
+from math import gcd
 from typing import Dict, List, NamedTuple, Optional, Tuple
 
 LOGICALS = 24  # logical partitions of a table
@@ -403,8 +404,9 @@ def find_alignment(starts: List[int]) -> int:
         return DEFAULT_ALIGN
     if starts == [1]:
         return 1
-    for divisor in range(min(MAX_ALIGN, max(starts)), 0, -1):
-        if all(start % divisor == 0 for start in starts):
+    common = gcd(*starts)  # what divides every start divides this; 0 if all are 0
+    for divisor in range(min(MAX_ALIGN, common), 0, -1):
+        if common % divisor == 0:
             return divisor
     raise Refusal(7)
 

@@ -1,9 +1,6 @@
 // Runs the cases on standard input and writes their answers. second/answers.py says what the commands are.
 
-use cases::lent;
-use cases::lent::Lengths;
-use cases::line;
-use cases::say;
+use lent::Lengths;
 
 fn main() {
     let mut text = lent::text_buffer();

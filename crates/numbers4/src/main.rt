@@ -1,10 +1,7 @@
 // Runs the cases of reading on standard input and writes their answers. second/answers.py says what the commands are.
 mod on_read;
 
-use cases::lent;
-use cases::lent::Lengths;
-use cases::line;
-use cases::say;
+use lent::Lengths;
 
 fn main() {
     let mut text = lent::text_buffer();

@@ -1,5 +1,4 @@
 // Reading: X is an extract.
-use cases::say;
 use extract::Outcome;
 use read::HeaderRead;
 use read::ReadAnswer;
@@ -28,7 +27,7 @@ fn read_header(r: HeaderRead) {
 
 // Answers the line if its command is in the list.
 pub fn run(l: &[u8], x: &[u8]) -> bool {
-    let k = cases::line::which(l, b"read read_header");
+    let k = line::which(l, b"read read_header");
     match k {
         0 => read_table(read::read_from(x)),
         1 => read_header(read::read_header(x)),

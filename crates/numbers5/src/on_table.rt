@@ -1,9 +1,6 @@
 // Lookup and small changes of a table, and push. The table is read from X; its alignment, geometry, count and D are the
 // first six words of the line.
 use base::Answer;
-use cases::lent;
-use cases::line;
-use cases::say;
 use extract::Outcome;
 use lookup::Count;
 use lookup::Got;

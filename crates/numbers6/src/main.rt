@@ -1,10 +1,8 @@
-// Runs the cases of free runs and places on standard input and writes their answers. second/answers.py says what the commands are.
+// Runs the cases of free runs, places and the two reference forms on standard input and writes their answers. second/answers.py says what the commands are.
 mod on_free;
+mod on_lent;
 
-use cases::lent;
-use cases::lent::Lengths;
-use cases::line;
-use cases::say;
+use lent::Lengths;
 
 fn main() {
     let mut text = lent::text_buffer();

@@ -1,7 +1,5 @@
 // Free runs and places. The table is read from X; its alignment, geometry, count and D are the first six words of the line.
 use base::Answer;
-use cases::line;
-use cases::say;
 use extract::Outcome;
 use free::FreeAnswer;
 use free::RUNS;
@@ -23,7 +21,7 @@ fn given(l: &[u8], read: MBR) -> MBR {
 }
 
 // Start and length of each run.
-fn show(at: [Run; RUNS], n: usize) {
+pub fn show(at: [Run; RUNS], n: usize) {
     for i in 0..RUNS {
         if i < n {
             let r = at[i];
@@ -69,14 +67,19 @@ fn answer(k: usize, l: &[u8], t: MBR) {
         2 => place_of(place::find_last_place(t, line::n32(l, 7))),
         3 => place_of(place::find_optimal_place(t, line::n32(l, 7))),
         4 => size_of(place::get_maximum_partition_size(t)),
-        _ => size_of(place::get_maximum_partition_size_for(t, line::size(l, 7))),
+        5 => size_of(place::get_maximum_partition_size_for(t, line::size(l, 7))),
+        6 => crate::on_lent::free_into(l, t),
+        _ => crate::on_lent::update_lent(l, t),
     }
 }
 
 // Answers the line if its command is in the list.
 pub fn run(l: &[u8], x: &[u8]) -> bool {
-    let k = line::which(l, b"free first_place last_place best_place most most_for");
-    if 5 < k {
+    let k = line::which(
+        l,
+        b"free first_place last_place best_place most most_for free_into update_lent",
+    );
+    if 7 < k {
         return false;
     }
     let r = read::read_from(x);

@@ -1,6 +1,4 @@
 // CHS addresses.
-use cases::line;
-use cases::say;
 use chs::CHS;
 use chs::Lba;
 use chs::Placed;

@@ -1,8 +1,5 @@
 // EBR records.
 use base::Answer;
-use cases::lent;
-use cases::line;
-use cases::say;
 use ebr::EBRHeader;
 use ebr::Kept;
 

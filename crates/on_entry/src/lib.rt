@@ -1,6 +1,4 @@
 // Partition entries.
-use cases::line;
-use cases::say;
 use entry::MBRPartitionEntry;
 ghost use Prim.Native.Nat.{_<_};
 

@@ -1,7 +1,4 @@
 // Extracts: X is one, or one and a record.
-use cases::lent;
-use cases::line;
-use cases::say;
 use extract::Header;
 use extract::Outcome;
 use extract::Place;

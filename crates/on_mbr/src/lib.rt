@@ -1,8 +1,5 @@
 // MBR records.
 use base::Answer;
-use cases::lent;
-use cases::line;
-use cases::say;
 use mbr::Found;
 use mbr::MBRHeader;
 use mbr::Protection;

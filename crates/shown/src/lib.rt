@@ -1,6 +1,4 @@
 // How the case programs write the values of the library: each part after a space.
-use cases::lent;
-use cases::say;
 use chs::CHS;
 use entry::MBRPartitionEntry;
 use mbr::MBRHeader;

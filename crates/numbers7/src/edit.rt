@@ -1,0 +1,154 @@
+// The table that a line hands in: what was read, with the line's six numbers and then its edits.
+use entry::MBRPartitionEntry;
+use mbr::MBRHeader;
+use table::DiskLba;
+use table::LOGICALS;
+use table::LogicalPartition;
+use table::MBR;
+use table::MaybeChs;
+use table::MaybeSectors;
+
+// The table with the line's alignment, geometry, count and D.
+pub fn given(l: &[u8], read: MBR) -> MBR {
+    let mut t = read;
+    t.align = line::n32(l, 1);
+    t.cylinders = line::n16(l, 2);
+    t.heads = line::n8(l, 3);
+    t.sectors = line::n8(l, 4);
+    t.count = line::size(l, 5);
+    t.disk_size = line::n32(l, 6);
+    t
+}
+
+// An entry with one field changed.
+fn entry(e: MBRPartitionEntry, field: usize, v: u32) -> MBRPartitionEntry {
+    let mut f = e;
+    match field {
+        1 => f.boot = (v % 256) as u8,
+        2 => f.sys = (v % 256) as u8,
+        3 => f.starting_lba = v,
+        _ => f.sectors = v,
+    }
+    f
+}
+
+// A header with an entry changed.
+fn primary(h: MBRHeader, number: usize, field: usize, v: u32) -> MBRHeader {
+    let mut g = h;
+    match number {
+        1 => g.partition_1 = entry(h.partition_1, field, v),
+        2 => g.partition_2 = entry(h.partition_2, field, v),
+        3 => g.partition_3 = entry(h.partition_3, field, v),
+        _ => g.partition_4 = entry(h.partition_4, field, v),
+    }
+    g
+}
+
+// A header with another signature.
+fn signed(h: MBRHeader, v: u32) -> MBRHeader {
+    let mut g = h;
+    g.boot_signature = [(v % 256) as u8, (v / 256 % 256) as u8];
+    g
+}
+
+// A logical partition with these link sectors and this last link CHS.
+fn with_link(l: LogicalPartition, sectors: MaybeSectors, last: MaybeChs) -> LogicalPartition {
+    let p = l.partition;
+    let place = l.absolute_ebr_lba;
+    let first = l.ebr_first_chs;
+    let kept = l.kept;
+    LogicalPartition {
+        partition: p,
+        absolute_ebr_lba: place,
+        ebr_sectors: sectors,
+        ebr_first_chs: first,
+        ebr_last_chs: last,
+        kept: kept,
+    }
+}
+
+fn placed(l: LogicalPartition, v: u32) -> LogicalPartition {
+    let place = DiskLba(v);
+    let mut m = l;
+    m.absolute_ebr_lba = place;
+    m
+}
+
+// A logical partition with other link sectors, without a link field, or with the first link CHS as its last.
+fn linked(l: LogicalPartition, field: usize, v: u32) -> LogicalPartition {
+    let sectors = l.ebr_sectors;
+    let first = l.ebr_first_chs;
+    let last = l.ebr_last_chs;
+    let new_sectors = MaybeSectors::Present(v);
+    let no_sectors = MaybeSectors::Absent;
+    let new_last = MaybeChs::Present(first);
+    let no_last = MaybeChs::Absent;
+    match field {
+        6 => with_link(l, new_sectors, last),
+        7 => with_link(l, no_sectors, last),
+        8 => with_link(l, sectors, no_last),
+        _ => with_link(l, sectors, new_last),
+    }
+}
+
+// A logical partition with one field changed.
+fn logical(l: LogicalPartition, field: usize, v: u32) -> LogicalPartition {
+    if 5 < field {
+        return linked(l, field, v);
+    }
+    if field == 5 {
+        return placed(l, v);
+    }
+    let mut m = l;
+    let p = l.partition;
+    m.partition = entry(p, field, v);
+    m
+}
+
+fn with_header(t: MBR, h: MBRHeader) -> MBR {
+    let mut u = t;
+    u.header = h;
+    u
+}
+
+fn with_logical(t: MBR, i: usize, l: LogicalPartition) -> MBR {
+    if i < LOGICALS {
+        let mut u = t;
+        u.logical_partitions[i] = l;
+        return u;
+    }
+    t
+}
+
+fn nth(ls: [LogicalPartition; LOGICALS], i: usize) -> LogicalPartition {
+    if i < LOGICALS {
+        return ls[i];
+    }
+    LogicalPartition::empty()
+}
+
+// One edit: a number of a partition (0 is the header's signature), a field and a value. Field 0 edits nothing.
+fn edited(t: MBR, number: usize, field: usize, v: u32) -> MBR {
+    if field == 0 {
+        return t;
+    }
+    let h = t.header;
+    if number == 0 {
+        return with_header(t, signed(h, v));
+    }
+    if number < 5 {
+        return with_header(t, primary(h, number, field, v));
+    }
+    let ls = t.logical_partitions;
+    let l = nth(ls, number - 5);
+    with_logical(t, number - 5, logical(l, field, v))
+}
+
+// The four edits of a line; those that are missing are all zeros.
+pub fn handed(l: &[u8], read: MBR) -> MBR {
+    let a = given(l, read);
+    let b = edited(a, line::size(l, 8), line::size(l, 9), line::n32(l, 10));
+    let c = edited(b, line::size(l, 11), line::size(l, 12), line::n32(l, 13));
+    let d = edited(c, line::size(l, 14), line::size(l, 15), line::n32(l, 16));
+    edited(d, line::size(l, 17), line::size(l, 18), line::n32(l, 19))
+}

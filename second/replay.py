@@ -1,0 +1,482 @@
+"""Demand 3, replayed: careful changes of generated sound disks, stopped after every number of stores.
+
+python3 replay.py [DISKS] generates so many disks. The stores are taken from the lent output's bytes. What a disk must read
+as and what a record must hold are worked out here in whole numbers, from document 01 and the disk before, and not by the
+functions of model.py that make the stores. Before that, faults that are planted into good answers must each be noticed;
+with -v behind the number the rules are named by which they were.
+"""
+import random
+import sys
+from dataclasses import replace
+from functools import lru_cache
+
+import model as m
+from model import CHS, EBR, Entry, Geometry, Refusal
+
+# the same disks and records are read again and again
+m.ebr_read = lru_cache(4096)(m.ebr_read)
+m.header_read = lru_cache(64)(m.header_read)
+m.read_table = lru_cache(4)(m.read_table)
+
+BIG = 0xFFFFFFFF
+LENT = b"\xee"
+UNSET = Geometry(0, 0, 0)
+PLAIN_TYPES = [n for n in range(1, 256) if n not in m.EXTENDED_TYPES]
+
+
+class Violation(Exception):
+    pass
+
+
+def hold(rule, holds):
+    if not holds:
+        raise Violation(rule)
+
+
+# ---------------------------------------------------------------- sound disks
+
+
+def any_chs(rng):
+    return rng.choice((m.NO_CHS, CHS(1023, 254, 63), CHS(rng.randrange(1024), rng.randrange(256), rng.randrange(64))))
+
+
+def any_code(rng, length):
+    return rng.choice((bytes(length), rng.randbytes(length)))
+
+
+def any_type(rng):
+    """A type that a data partition may have."""
+    return rng.choice(PLAIN_TYPES)
+
+
+def entry(rng, sys, start, sectors):
+    return Entry(rng.choice((0, 0, 0x80)), any_chs(rng), sys, any_chs(rng), start, sectors)
+
+
+def gap(rng):
+    return rng.choice((0, 0, 0, 1, rng.randrange(9), rng.randrange(3000)))
+
+
+def chain_places(rng, start, n):
+    """EBR place, partition start and sectors of each of n logicals, and the least end."""
+    places, at = [], start
+    for _ in range(n):
+        first = at + 1 + gap(rng)
+        length = rng.choice((1, 2, rng.randrange(1, 30), rng.randrange(1, 5000)))
+        places.append((at, first, length))
+        at = first + length + gap(rng)
+    return places, places[-1][1] + places[-1][2] if places else start + 1
+
+
+def further(rng, record):
+    """The EBR with any 32 further bytes, which reading ignores."""
+    return record[:478] + rng.choice((bytes(32), rng.randbytes(32))) + record[510:]
+
+
+def chain_records(rng, start, end, places):
+    records = {}
+    for i, (at, first, length) in enumerate(places):
+        link = entry(rng, rng.randrange(256), 0, rng.randrange(BIG))
+        if i + 1 < len(places):
+            place, next_first, next_length = places[i + 1]
+            covered = next_first + next_length - place
+            link = entry(rng, rng.choice((0x05, rng.randrange(256))), place - start,
+                         rng.choice((covered, covered, end - place)))
+        ebr = EBR(any_code(rng, 446), entry(rng, any_type(rng), first - at, length), link)
+        records[at] = further(rng, m.ebr_bytes(ebr))
+    return records
+
+
+def no_ebr(rng):
+    """What may stand at X under an empty chain: no signature, or a flag that is refused."""
+    record = rng.randbytes(510)
+    return rng.choice((bytes(512), record + b"\x55\xab", record[:446] + b"\x01" + record[447:] + b"\x55\xaa"))
+
+
+def around(rng, start, end, limit):
+    """Up to three primaries before and behind the extended partition, which overlap nothing, and D."""
+    entries, at = [], 1
+    for _ in range(rng.randrange(3)):
+        if at + 1 < start:
+            first = rng.randrange(at, start)
+            at = rng.randrange(first, start) + 1
+            entries.append(entry(rng, any_type(rng), first, at - first))
+    at = end
+    for _ in range(rng.randrange(4 - len(entries))):
+        if at + 2 < limit:
+            first = at + rng.choice((0, rng.randrange(limit - at - 1)))
+            at = rng.randrange(first, limit) + 1 if rng.random() < 0.5 else first + 1
+            entries.append(entry(rng, any_type(rng), first, at - first))
+    disk_size = min(limit, at + rng.choice((0, 0, 1, rng.randrange(5000))))
+    return entries, disk_size
+
+
+def sound_disk(rng):
+    """A disk that reads as a sound table: its extract."""
+    if rng.random() < 0.03:
+        start, end, places, here = 1, 1, [], {}
+        extended = []
+    else:
+        start = rng.choice((1, 2, 63, 2048, rng.randrange(1, 10 ** 5), rng.randrange(1, BIG - 10 ** 6)))
+        n = rng.choice((0, 1, 2, 3, 23, 24, rng.randrange(25), rng.randrange(10), rng.randrange(10)))
+        places, least = chain_places(rng, start, n)
+        end = least + rng.choice((0, 1, rng.randrange(100), rng.randrange(50000), rng.randrange(10 ** 6),
+                                  rng.randrange(BIG - least)))
+        if rng.random() < 0.02:
+            end = BIG
+        here = chain_records(rng, start, end, places) if places else rng.choice(({}, {start: no_ebr(rng)}))
+        extended = [entry(rng, rng.choice(m.EXTENDED_TYPES), start, end - start)]
+    entries, disk_size = around(rng, start, end, BIG)
+    unused = [entry(rng, 0, rng.randrange(BIG), rng.randrange(BIG)) for _ in range(4)]
+    entries = (entries + extended + unused)[:4]
+    rng.shuffle(entries)
+    header = m.Header(any_code(rng, 440), rng.randbytes(4), rng.randbytes(2), tuple(entries), m.SIGNATURE)
+    records = {0: m.header_bytes(header), **here}
+    for _ in range(rng.randrange(6)):
+        lba = rng.randrange(disk_size)
+        if lba not in records and lba != start:
+            records[lba] = rng.choice((bytes(512), rng.randbytes(512), m.ebr_bytes(EBR(bytes(446), m.NO_ENTRY, m.NO_ENTRY))))
+    return m.extract_bytes(m.Disk(rng.choice(m.SECTOR_SIZES), disk_size, records))
+
+
+# ---------------------------------------------------------------- requests
+
+
+def any_push(rng, t):
+    """Alignment, geometry, type, start and sectors: often near what fits."""
+    extended = t.header.extended()
+    low = t.logicals[-1].partition.end if t.logicals else extended.starting_lba if extended else 0
+    high = extended.end if extended else t.disk_size
+    align = rng.choice((1, 1, 1, 2, 7, 63, rng.choice((2048, rng.randrange(5000)))))
+    room = max(0, high - low)
+    start = low + rng.choice((0, 0, 1, rng.randrange(room + 1), rng.randrange(room + 1), room // 2, room - 2 * align))
+    start -= rng.choice((0, 0, 0, 0, 1, align))
+    left = max(0, high - max(start, 0))
+    sectors = rng.choice((2 * align, 2 * align + 1, 3 * align, left, left // 2, left - align, rng.randrange(left + 1)))
+    sectors += rng.choice((0, 0, 0, 0, 0, 1, 1, BIG))
+    heads, per_track = rng.choice(((255, 63), (255, 63), (255, 63), (16, 63), (1, 1), (255, 64)))
+    whole = max(1, min(1023, high // (heads * per_track) + 1))
+    geometry = rng.choice((UNSET, UNSET, UNSET, Geometry(1023, heads, per_track), Geometry(whole, heads, per_track),
+                           Geometry(rng.randrange(1200), heads, per_track)))
+    sys = any_type(rng) if rng.random() < 0.95 else rng.choice((0, *m.EXTENDED_TYPES))
+    within = [min(max(n, 0), BIG) for n in (start, sectors)]
+    return align, geometry, sys, *within
+
+
+def up(n, align):
+    return -(-n // align) * align
+
+
+def new_place(align, start, sectors):
+    """Where the new EBR and its partition lie, and where both end."""
+    place = up(start, align)
+    return place, place + align, place + up(sectors, align)
+
+
+def cylinder(g, lba):
+    return lba // (g.heads * g.sectors)
+
+
+def push_holds(t, align, geometry, sys, start, sectors):
+    """Whether a careful push of a sound table is to be accepted: every condition at once, in whole numbers."""
+    extended = t.header.extended()
+    if not extended or align == 0 or start == 0 or sectors == 0 or len(t.logicals) == m.LOGICALS:
+        return False
+    if sys == 0 or sys in m.EXTENDED_TYPES:
+        return False
+    place, first, end = new_place(align, start, sectors)
+    fits = (extended.starting_lba <= place <= extended.end - 2 * align and end <= extended.end
+            and end - place >= 2 * align and all(place >= l.partition.end for l in t.logicals))
+    if not fits or not 0 < geometry.cylinders <= 1023 or geometry.heads == 0 or geometry.sectors == 0:
+        return fits
+    if geometry.sectors > 63:
+        return False
+    return cylinder(geometry, end - 1) <= geometry.cylinders
+
+
+# ---------------------------------------------------------------- what must hold
+
+
+def contents(disk):
+    """What a disk reads as; alignment and geometry are left out."""
+    try:
+        header = m.read_header(disk)
+        extended = header.extended()
+        return disk.sector_size, disk.disk_size, header, m.read_chain(disk, extended) if extended else ()
+    except Refusal as r:
+        return f"refused {r.number}"
+
+
+def contents_of(t):
+    return t.sector_size, t.disk_size, t.header, t.logicals
+
+
+def data_partitions(t):
+    primaries = [e for e in t.header.entries if m.is_used(e) and not m.is_extended(e)]
+    return primaries + [l.partition for l in t.logicals]
+
+
+def decoded(out, n):
+    return [(m.little(out[at:at + 4]), bytes(out[at + 4:at + 516])) for at in range(0, 516 * n, 516)]
+
+
+def after(disk, stores):
+    return m.Disk(disk.sector_size, disk.disk_size, {**disk.records, **dict(stores)})
+
+
+def laid(x, stores):
+    """The extract with the stores laid over it; none where a 65th record is refused."""
+    for lba, record in stores:
+        out = bytearray(len(x) + 516)
+        try:
+            x = bytes(out[:m.lay_over(x, lba, record, out)])
+        except Refusal as r:
+            hold("lay-over refused", r.number == 22)
+            return None
+    return x
+
+
+def replayed(x, before, wanted, stores):
+    """Demand 3 of an accepted change: the table before, the table that is wanted, and the stores."""
+    disk = m.extract_disk(x)
+    hold("one or two stores", len(stores) in (1, 2))
+    hold("inside the disk", all(lba < disk.disk_size and len(record) == 512 for lba, record in stores))
+    hold("sound after", m.sound(wanted))
+    for k in range(len(stores) + 1):
+        now = contents(after(disk, stores[:k]))
+        hold("the table before or after", now in (contents_of(before), contents_of(wanted)))
+        if k == len(stores):
+            hold("the table after, once all is stored", now == contents_of(wanted))
+        over = laid(x, stores[:k]) if k > 0 else None
+        hold("the laid-over extract reads so too", over is None or contents(m.extract_disk(over)) == now)
+    for lba, _ in stores:
+        for e in data_partitions(before) + data_partitions(wanted):
+            hold("clear of data", not e.starting_lba <= lba < e.end)
+
+
+def link_bytes(extended, l):
+    """The link to a later logical, or the end."""
+    if l is None:
+        return bytes(16)
+    return (b"\x00" + m.chs_bytes(l.ebr_first_chs) + bytes([extended.sys]) + m.chs_bytes(l.ebr_last_chs)
+            + m.four(l.absolute_ebr_lba - extended.starting_lba) + m.four(l.ebr_sectors))
+
+
+TAIL = bytes(32) + b"\x55\xaa"
+
+
+def push_records(disk, t, wanted, align, sys, start, sectors):
+    """The stores of a push: a new EBR, then the former last, with its own first 462 bytes."""
+    extended = t.header.extended()
+    place, first, end = new_place(align, start, sectors)
+    new = wanted.logicals[-1]
+    if not t.logicals:
+        place = extended.starting_lba
+    partition = (b"\x00" + m.chs_bytes(new.partition.first_chs) + bytes([sys]) + m.chs_bytes(new.partition.last_chs)
+                 + m.four(first - place) + m.four(end - first))
+    stores = [(place, bytes(446) + partition + bytes(16) + TAIL)]
+    if t.logicals:
+        last = t.logicals[-1].absolute_ebr_lba
+        stores.append((last, disk.records[last][:462] + link_bytes(extended, new) + TAIL))
+    return stores
+
+
+def removal_records(disk, t, at):
+    """The store of a removal: the EBR before it with the link behind it; X with the second; zeros at X."""
+    extended = t.header.extended()
+    behind = t.logicals[at + 1] if at + 1 < len(t.logicals) else None
+    if at > 0:
+        place = t.logicals[at - 1].absolute_ebr_lba
+        return [(place, disk.records[place][:462] + link_bytes(extended, behind) + TAIL)]
+    if behind is None:
+        return [(extended.starting_lba, bytes(512))]
+    third = t.logicals[2] if len(t.logicals) > 2 else None
+    second = disk.records[behind.absolute_ebr_lba]
+    moved = m.four(behind.partition.starting_lba - extended.starting_lba)
+    return [(extended.starting_lba, second[:454] + moved + second[458:462] + link_bytes(extended, third) + TAIL)]
+
+
+def in_first_place(t):
+    """01's first-place rule."""
+    if not t.logicals:
+        return t
+    extended, first = t.header.extended(), t.logicals[0]
+    first = m.Logical(first.partition, extended.starting_lba, None, extended.first_chs, None, first.bootstrap_code)
+    return replace(t, logicals=(first, *t.logicals[1:]))
+
+
+def checked(x, t, made, wanted, records, out):
+    """An accepted change: made is the second program's answer, or a planted one."""
+    stores = decoded(out, len(made.stores))
+    hold("other lent bytes stay", bytes(out[516 * len(stores):]) == LENT * (len(out) - 516 * len(stores)))
+    replayed(x, t, wanted, stores)
+    hold("each byte of the stores", stores == records)
+    hold("the answered table", contents_of(made.table) == contents_of(wanted))
+
+
+def pushed(x, t, request, made, out):
+    align, geometry, sys, start, sectors = request
+    asked = replace(t, align=align, cylinders=geometry.cylinders, heads=geometry.heads, sectors=geometry.sectors)
+    wanted = in_first_place(m.push(asked, sys, start, sectors).table)
+    checked(x, t, made, wanted, push_records(m.extract_disk(x), t, wanted, align, sys, start, sectors), out)
+
+
+def removed(x, t, number, made, out):
+    wanted = in_first_place(m.remove(t, number).table)
+    checked(x, t, made, wanted, removal_records(m.extract_disk(x), t, number - 5), out)
+
+
+# ---------------------------------------------------------------- the run
+
+
+def try_push(rng, x, t, changed=lambda made, out: made):
+    request = any_push(rng, t)
+    room = rng.choice((1032, 1032, 1032, 1040, 1031, 516))
+    out = bytearray(LENT * room)
+    try:
+        made = m.careful_push(x, *request, out)
+    except Refusal:
+        hold("lent bytes stay on a refusal", out == LENT * room)
+        hold("refused only as listed", room < 1032 or not push_holds(t, *request))
+        return False
+    hold("accepted only if no refusal applies", room >= 1032 and push_holds(t, *request))
+    pushed(x, t, request, changed(made, out), out)
+    return True
+
+
+def try_removal(rng, x, t, number, changed=lambda made, out: made):
+    room = rng.choice((1032, 1032, 1032, 1040, 1031))
+    out = bytearray(LENT * room)
+    try:
+        made = m.careful_removal(x, number, out)
+    except Refusal:
+        hold("lent bytes stay on a refusal", out == LENT * room)
+        hold("refused only as listed", room < 1032 or not 5 <= number < 5 + len(t.logicals))
+        return False
+    hold("accepted only if no refusal applies", room >= 1032 and 5 <= number < 5 + len(t.logicals))
+    removed(x, t, number, changed(made, out), out)
+    return True
+
+
+def numbers(rng, t):
+    """The first, the last, one between, one absent."""
+    last = 4 + len(t.logicals)
+    return {5, last, rng.randrange(4, 7 + len(t.logicals))}
+
+
+def run(disks, seed):
+    rng = random.Random(seed)
+    pushes = removals = 0
+    for _ in range(disks):
+        x = sound_disk(rng)
+        t = m.read_table(x)
+        hold("a generated disk is sound", not m.broken_rules(t))
+        for _ in range(3):
+            pushes += try_push(rng, x, t)
+        for number in numbers(rng, t):
+            removals += try_removal(rng, x, t, number)
+    return pushes, removals
+
+
+# ---------------------------------------------------------------- planted faults
+
+
+def altered(out, at, new):
+    out[at:at + len(new)] = new
+
+
+def exchanged(made, out):
+    """The link stored before its new EBR."""
+    if len(made.stores) == 2:
+        out[:1032] = out[516:1032] + out[:516]
+    return made
+
+
+def repeated(made, out):
+    """The first store repeated as the second."""
+    if len(made.stores) == 2:
+        out[516:1032] = out[:516]
+    return made
+
+
+def one_dropped(made, out):
+    """A store fewer."""
+    altered(out, 516 * (len(made.stores) - 1), LENT * 516)
+    return made._replace(stores=made.stores[:-1])
+
+
+def other_type(made, out):
+    """The link's type wrong: it reads the same, and the bytes tell."""
+    at = 516 * (len(made.stores) - 1) + 4 + 462
+    if any(out[at:at + 16]):
+        out[at + 4] ^= 0x0A
+    return made
+
+
+def partition_type(made, out):
+    """The partition's type wrong."""
+    out[4 + 450] ^= 0x40
+    return made
+
+
+def code_lost(made, out):
+    """The code of the record that is rewritten wiped."""
+    at = 516 * (len(made.stores) - 1) + 4
+    altered(out, at, bytes(446))
+    return made
+
+
+def one_sector_on(made, out):
+    """A store one sector higher."""
+    altered(out, 0, m.four(m.little(out[:4]) + 1))
+    return made
+
+
+def on_data(made, out):
+    """A second store on the first sector of a data partition: it reads the same."""
+    if len(made.stores) == 1 and data_partitions(made.table):
+        lba = data_partitions(made.table)[-1].starting_lba
+        altered(out, 516, m.four(lba) + bytes(512))
+        made = made._replace(stores=made.stores * 2)
+    return made
+
+
+def byte_behind(made, out):
+    """A lent byte behind the stores changed."""
+    if len(out) > 516 * len(made.stores):
+        out[516 * len(made.stores)] = 0
+    return made
+
+
+FAULTS = (exchanged, repeated, one_dropped, other_type, partition_type, code_lost, one_sector_on, on_data, byte_behind)
+
+
+def noticed(fault, disks, seed):
+    """How the fault is noticed: the rules that it breaks, and how often."""
+    rng = random.Random(seed)
+    broken = {}
+    for _ in range(disks):
+        x = sound_disk(rng)
+        t = m.read_table(x)
+        for attempt in (lambda: try_push(rng, x, t, fault), lambda: try_removal(rng, x, t, 5 + rng.randrange(3), fault)):
+            try:
+                attempt()
+            except Violation as v:
+                broken[str(v)] = broken.get(str(v), 0) + 1
+    return broken
+
+
+if __name__ == "__main__":
+    disks = int(sys.argv[1]) if len(sys.argv) > 1 else 3000
+    for fault in FAULTS:
+        broken = noticed(fault, 60, 31)
+        if not broken:
+            sys.exit(f"replay: the planted fault {fault.__name__} was not noticed")
+        if "-v" in sys.argv:
+            print(fault.__name__, broken)
+    try:
+        pushes, removals = run(disks, 30)
+    except Violation as v:
+        sys.exit(f"replay: {v}: not so")
+    print(f"replay: demand 3 holds on {disks} sound disks, of {pushes} careful pushes and {removals} careful removals; "
+          f"{len(FAULTS)} planted faults noticed")

@@ -1,0 +1,1 @@
+// Writing and then reading: the table comes back.

@@ -15,7 +15,7 @@ pub struct HeaderAnswer {
 }
 
 // The code of a record.
-fn code_of(r: &[u8]) -> [u8; 440]
+pub fn code_of(r: &[u8]) -> [u8; 440]
     requires { ⌜ 440 ≤ length (now r) ⌝ }
     ensures { λ c. ⌜ c ≡ codeOf (now (r .entry)) ⌝ }
 {

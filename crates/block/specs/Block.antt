@@ -1,0 +1,186 @@
+-- The table block: a table as 12,108 bytes at fixed offsets, every number little-endian. Assumes nothing.
+use Prim.Native.Nat.{ℕ, zero, suc, _+_, _*_}
+use mathlib.Core.List.{List, [], _∷_, _++_}
+use mathlib.Core.Bool.{Bool, true, _&&_}
+use lib.Dec.{eqb, leb}
+use lib.ListN.{length, getD, take, drop, replicate}
+use Rattle.base.specs.Pick.{pick}
+use Rattle.base.specs.Bytes.{bytesAt, number, bytesOf, little}
+use Rattle.base.specs.Checks.{Check, _!_}
+use Rattle.chs.specs.declared.CHS.{CHS}
+use Rattle.chs.specs.Chs.{chs}
+use Rattle.entry.specs.declared.MBRPartitionEntry.{MBRPartitionEntry}
+use Rattle.ebr.specs.Ebr.{keptOf}
+use Rattle.mbr.specs.declared.MBRHeader.{MBRHeader}
+use Rattle.mbr.specs.Mbr.{codeOf, noHeader}
+use Rattle.table.specs.declared.MaybeSectors.{MaybeSectors}
+use Rattle.table.specs.declared.MaybeSectors.the-variants.{Absent, Present}
+use Rattle.table.specs.declared.MaybeChs.{MaybeChs}
+use Rattle.table.specs.declared.MaybeChs.the-variants.{Absent as NoChs, Present as SomeChs}
+use Rattle.table.specs.declared.LogicalPartition.{LogicalPartition}
+use Rattle.table.specs.declared.MBR.{MBR}
+use Rattle.table.specs.Table.{most, defaultAlign, slots}
+
+-- front 20, header 520, 24 slots of 482
+abbrev pub blockLength : ℕ
+blockLength = 12108
+
+-- the n bytes from index at on
+unfoldable pub part : List ℕ → ℕ → ℕ → List ℕ
+part b at n = take n (drop at b)
+
+-- an address: cylinder 2, head, sector
+abbrev pub chsPart : CHS → List ℕ
+chsPart c = bytesOf little 2 (c .cylinder) ++ (c .head ∷ c .sector ∷ [])
+
+abbrev pub chsIn : List ℕ → ℕ → CHS
+chsIn s at = chs (number little (bytesAt s at 2)) (getD s (at + 2) 0) (getD s (at + 3) 0)
+
+-- an entry of 18: flag, first address, type, last address, start, sectors
+abbrev pub entryPart : MBRPartitionEntry → List ℕ
+entryPart e =
+    (e .boot ∷ []) ++ chsPart (e .«first_chs») ++ (e .sys ∷ []) ++ chsPart (e .«last_chs») ++ bytesOf little 4 (e .«starting_lba») ++ bytesOf little 4 (e .sectors)
+
+abbrev pub entryIn : List ℕ → ℕ → MBRPartitionEntry
+entryIn s at =
+    record {
+      boot = getD s at 0;
+      «first_chs» = chsIn s (at + 1);
+      sys = getD s (at + 5) 0;
+      «last_chs» = chsIn s (at + 6);
+      «starting_lba» = number little (bytesAt s (at + 10) 4);
+      sectors = number little (bytesAt s (at + 14) 4);
+    }
+
+-- a tag, 0 absent or 1 present, and the value; an absent one's bytes are zero when written and ignored when read
+abbrev pub sectorsPart : MaybeSectors → List ℕ
+sectorsPart Absent = replicate 5 0
+sectorsPart (Present v) = (1 ∷ []) ++ bytesOf little 4 v
+
+abbrev pub sectorsIn : List ℕ → ℕ → MaybeSectors
+sectorsIn s at = pick (eqb (getD s at 0) 0) Absent (Present (number little (bytesAt s (at + 1) 4)))
+
+abbrev pub lastPart : MaybeChs → List ℕ
+lastPart NoChs = replicate 5 0
+lastPart (SomeChs c) = (1 ∷ []) ++ chsPart c
+
+abbrev pub lastIn : List ℕ → ℕ → MaybeChs
+lastIn s at = pick (eqb (getD s at 0) 0) NoChs (SomeChs (chsIn s (at + 1)))
+
+-- a slot of 482: entry, EBR place, link sectors, first and last link address, code
+abbrev pub slotFront : LogicalPartition → List ℕ
+slotFront l =
+    entryPart (l .partition) ++ bytesOf little 4 (l .«absolute_ebr_lba» .0) ++ sectorsPart (l .«ebr_sectors») ++ chsPart (l .«ebr_first_chs»)
+    ++ lastPart (l .«ebr_last_chs»)
+
+unfoldable pub slotPart : LogicalPartition → List ℕ
+slotPart l = slotFront l ++ l .kept .«bootstrap_code»
+
+abbrev pub slotOf : List ℕ → LogicalPartition
+slotOf s =
+    record {
+      partition = entryIn s 0;
+      «absolute_ebr_lba» = record { 0 = number little (bytesAt s 18 4) };
+      «ebr_sectors» = sectorsIn s 22;
+      «ebr_first_chs» = chsIn s 27;
+      «ebr_last_chs» = lastIn s 31;
+      kept = keptOf (part s 36 446);
+    }
+
+-- both tags of a slot are 0 or 1
+abbrev pub slotTagged : List ℕ → Bool
+slotTagged s = leb (getD s 22 0) 1 && leb (getD s 31 0) 1
+
+-- the header of 520: code, disk signature, copy mark, four entries, signature
+abbrev pub codePart : MBRHeader → List ℕ
+codePart h = h .«bootstrap_code» ++ h .«disk_signature» ++ h .«copy_protected»
+
+abbrev pub entriesPart : MBRPartitionEntry → MBRPartitionEntry → MBRPartitionEntry → MBRPartitionEntry → List ℕ
+entriesPart one two three four = entryPart one ++ entryPart two ++ entryPart three ++ entryPart four
+
+unfoldable pub headerPart : MBRHeader → List ℕ
+headerPart h =
+    codePart h ++ entriesPart (h .«partition_1») (h .«partition_2») (h .«partition_3») (h .«partition_4») ++ h .«boot_signature»
+
+abbrev pub headerIn : List ℕ → MBRHeader
+headerIn s =
+    record {
+      «bootstrap_code» = codeOf s;
+      «disk_signature» = bytesAt s 440 4;
+      «copy_protected» = bytesAt s 444 2;
+      «partition_1» = entryIn s 446;
+      «partition_2» = entryIn s 464;
+      «partition_3» = entryIn s 482;
+      «partition_4» = entryIn s 500;
+      «boot_signature» = bytesAt s 518 2;
+    }
+
+-- the front of 20: sector size, disk size, alignment, count, cylinders, heads, sectors
+abbrev pub frontPart : ℕ → ℕ → ℕ → ℕ → ℕ → ℕ → ℕ → List ℕ
+frontPart size disk align count cylinders heads sectors =
+    bytesOf little 4 size ++ bytesOf little 4 disk ++ bytesOf little 4 align ++ bytesOf little 4 count ++ bytesOf little 2 cylinders
+    ++ (heads ∷ sectors ∷ [])
+
+-- every slot, the unused ones too
+unfoldable pub slotsPart : List LogicalPartition → List ℕ
+slotsPart [] = []
+slotsPart (l ∷ ls) = slotPart l ++ slotsPart ls
+
+-- the bytes of slot i
+abbrev pub slotAt : List ℕ → ℕ → List ℕ
+slotAt b i = part b (540 + 482 * i) 482
+
+-- the first n slots
+unfoldable pub slotsIn : List ℕ → ℕ → List LogicalPartition
+slotsIn b zero = []
+slotsIn b (suc n) = slotsIn b n ++ (slotOf (slotAt b n) ∷ [])
+
+-- n slots from slot i on have tags 0 or 1
+unfoldable pub tagged : List ℕ → ℕ → ℕ → Bool
+tagged b i zero = true
+tagged b i (suc n) = slotTagged (slotAt b i) && tagged b (suc i) n
+
+-- the block of a table
+unfoldable pub blockBytes : MBR → List ℕ
+blockBytes t =
+    frontPart (t .«sector_size») (t .«disk_size») (t .align) (t .count) (t .cylinders) (t .heads) (t .sectors)
+    ++ headerPart (t .header) ++ slotsPart (t .«logical_partitions»)
+
+-- the table in a block
+unfoldable pub tableIn : List ℕ → MBR
+tableIn b =
+    record {
+      «sector_size» = number little (bytesAt b 0 4);
+      header = headerIn (part b 20 520);
+      «logical_partitions» = slotsIn b most;
+      count = number little (bytesAt b 12 4);
+      align = number little (bytesAt b 8 4);
+      cylinders = number little (bytesAt b 16 2);
+      heads = getD b 18 0;
+      sectors = getD b 19 0;
+      «disk_size» = number little (bytesAt b 4 4);
+    }
+
+-- a table for a block: a count over the capacity 6, before everything else; then lent bytes of another length 101
+abbrev pub putChecks : MBR → ℕ → List Check
+putChecks t room = (6 ! leb (t .count) most) ∷ (101 ! eqb room blockLength) ∷ []
+
+-- a block: another length 101, since it has no count to look at; a count over the capacity 6; an impossible tag 102
+abbrev pub blockChecks : List ℕ → List Check
+blockChecks b =
+    (101 ! eqb (length b) blockLength) ∷ (6 ! leb (number little (bytesAt b 12 4)) most) ∷ (102 ! tagged b 0 most) ∷ []
+
+-- what stands in the place of a table that is refused
+unfoldable pub noTable : MBR
+noTable =
+    record {
+      «sector_size» = 0;
+      header = noHeader;
+      «logical_partitions» = slots [];
+      count = 0;
+      align = defaultAlign;
+      cylinders = 0;
+      heads = 0;
+      sectors = 0;
+      «disk_size» = 0;
+    }

@@ -1,0 +1,42 @@
+-- How an answer crosses as one number: the value, or 4,294,967,296 times document 01's number. Assumes nothing.
+use Prim.Native.Nat.{ℕ, _+_, _*_, _<_, _≤_}
+use mathlib.Core.Option.{Option, none, some}
+use Rattle.base.specs.Said.{Said, gives, refuses}
+use Rattle.chs.specs.declared.CHS.{CHS}
+
+-- the number of a refusal in the upper half
+abbrev pub upper : ℕ → ℕ
+upper k = k * 4294967296
+
+-- a value below 4,294,967,296, or a refusal
+abbrev pub packed : Said ℕ → ℕ
+packed (gives v) = v
+packed (refuses k) = upper k
+
+-- an address: cylinder, head, sector in 16, 8 and 8 bits
+abbrev pub chsWord : CHS → ℕ
+chsWord c = c .cylinder * 65536 + c .head * 256 + c .sector
+
+abbrev pub packedChs : Said CHS → ℕ
+packedChs (gives c) = chsWord c
+packedChs (refuses k) = upper k
+
+-- a refusal, or 0
+abbrev pub status : Option ℕ → ℕ
+status none = 0
+status (some k) = k
+
+-- nothing is 255 in the upper half, which is no refusal's number
+abbrev pub packedOption : Said (Option ℕ) → ℕ
+packedOption (gives none) = upper 255
+packedOption (gives (some v)) = v
+packedOption (refuses k) = upper k
+
+-- what one number can hold: a value of 32 bits, a refusal's number above 0
+abbrev pub Fits : Said ℕ → Type 0
+Fits (gives v) = v < 4294967296
+Fits (refuses k) = 1 ≤ k
+
+abbrev pub Known : Option ℕ → Type 0
+Known none = 0 ≤ 0
+Known (some k) = 1 ≤ k

@@ -1,0 +1,14 @@
+-- What a push asks for, from the numbers of a call. Assumes nothing.
+use Prim.Native.Nat.{ℕ}
+use Rattle.push.specs.declared.Request.{Request}
+
+-- alignment, geometry (cylinders, heads, sectors on a track), type, start, sectors
+abbrev pub asked : ℕ → ℕ → ℕ → ℕ → ℕ → ℕ → ℕ → Request
+asked align cylinders heads track sys start sectors =
+    record {
+      align = align;
+      geometry = record { cylinders = cylinders; heads = heads; sectors = track };
+      sys = sys;
+      start = start;
+      sectors = sectors;
+    }

@@ -1,0 +1,56 @@
+use mathlib.Core.Path.{sym, ap, _∙_}
+use lib.ListN.{length}
+use Rattle.base.specs.Said.{refusal}
+use Rattle.table.specs.declared.MBR.{MBR}
+use Rattle.abitable.specs.Blocks.{blockSays, pushOn, pushedOn}
+use Rattle.abitable.proofs.Laws.{block-refused, block-done, on-refused, on-done}
+use borrow.Author.Needs.{needs}
+use Rattle.abitable.proofs.cv_push.Statement.{statement}
+use Rattle.abitable.proofs.cv_push.Tie as tie
+
+get-requires : tie.Need-get-requires
+get-requires c κs = search needs
+
+enum-known-answer : tie.Need-enum-known-answer
+enum-known-answer c = search needs
+
+upper-requires : tie.Need-upper-requires
+upper-requires c κs = search needs
+
+enum-told : tie.Need-enum-told
+enum-told c = search needs
+
+push-on-requires : tie.Need-push-on-requires
+push-on-requires c κs = search needs
+
+returns : tie.Need-returns
+returns c =
+    let a = c .before .before .before .before .before .before .before .args in
+    let p = c .before .before .before .before .get .ensures in
+    let s = block-refused (a .b .now) _ (sym (p .0) ∙ ap refusal (c .before .before .answer .given .1)) in
+    let w = on-refused (blockSays (a .b .now)) (λ (t : MBR). pushOn t (a .sys) (a .start) (a .sectors) (length (a .out .now))) (λ (t : MBR). pushedOn t (a .sys) (a .start) (a .sectors)) _ (a .out .now) s in
+    (c .upper .ensures ∙ w .0, w .1)
+
+same-length : tie.Need-same-length
+same-length c = search needs
+
+returns-2 : tie.Need-returns-2
+returns-2 c =
+    let a = c .before .before .before .before .before .before .before .before .before .before .args in
+    let p = c .before .before .before .before .before .before .before .get .ensures in
+    let s = block-done (a .b .now) _ (sym (p .0) ∙ ap refusal (c .before .before .before .before .before .enum-told .given .1)) (p .1) in
+    let q = c .before .before .push-on .ensures in
+    on-done (blockSays (a .b .now)) _ (λ (t : MBR). pushOn t (a .sys) (a .start) (a .sectors) (length (a .out .now))) (λ (t : MBR). pushedOn t (a .sys) (a .start) (a .sectors)) _ (a .out .now) _ s (q .0) (q .1)
+
+pub cv-push-spec : {M : Type 1} → statement M
+cv-push-spec =
+    tie.close
+    (tie.spec
+    get-requires
+    enum-known-answer
+    upper-requires
+    enum-told
+    push-on-requires
+    returns
+    same-length
+    returns-2)

@@ -1,0 +1,16 @@
+-- Writing a table that is handed in as a block. Assumes nothing.
+use Prim.Native.Nat.{ℕ}
+use mathlib.Core.List.{List}
+use lib.ListN.{length}
+use Rattle.base.specs.Said.{Said, gives, refuses, andThen}
+use Rattle.table.specs.declared.MBR.{MBR}
+use Rattle.write.specs.Answers.{writeSays, writeLeaves}
+
+-- the length of the new extract, or a refusal: the block's, then writing's
+abbrev pub lengthOf : Said MBR → List ℕ → ℕ → Said ℕ
+lengthOf s x room = andThen s (λ t. writeSays t x room)
+
+-- the lent output after writing: as before if there is no table
+abbrev pub outputOf : Said MBR → List ℕ → List ℕ → List ℕ
+outputOf (refuses k) x out = out
+outputOf (gives t) x out = writeLeaves t x out

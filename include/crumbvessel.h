@@ -1,0 +1,162 @@
+/* Crumbvessel for programs in C: MBR tables from extracts, as bytes and numbers. x86-64 Linux.
+ *
+ * Link the archives of the functions in use: libabi.a, libabicareful.a, libabitable.a, libabilook.a,
+ * libabiwrite.a (`rt staticlib NAME` makes libNAME.a).
+ *
+ * Lent bytes are an address and a length. The address is never null, also where the length is 0. Bytes that a function
+ * writes overlap nothing else that the same call is lent. No function keeps an address or allocates. A refusal leaves
+ * every lent byte as it was.
+ *
+ * A block is lent whole, CV_BLOCK bytes; any other length is CV_BLOCK_LENGTH. An extract or an output of length 0 is
+ * allowed and refused (1, 19, 101).
+ */
+#ifndef CRUMBVESSEL_H
+#define CRUMBVESSEL_H
+
+#include <stdbool.h>
+#include <stddef.h>
+#include <stdint.h>
+
+#ifdef __cplusplus
+extern "C" {
+#endif
+
+/* The refusals. */
+enum cv_refusal {
+    CV_DONE = 0,
+    CV_BAD_EXTRACT = 1,        /* the extract breaks a rule; a lent record is not 512 bytes */
+    CV_PAST_DISK = 2,          /* a record at or past the disk's end */
+    CV_SIGNATURE = 3,          /* InvalidSignature */
+    CV_BOOT_FLAG = 4,          /* InvalidBootFlag */
+    CV_INCONSISTENT_EBR = 5,   /* InconsistentEBR */
+    CV_TOO_MANY = 6,           /* a 25th logical partition; a table handed in with a count over 24 */
+    CV_ARITHMETIC = 7,         /* arithmetic leaves 32 bits or divides by zero; alignment 0 or none found */
+    CV_NO_EXTENDED = 8,        /* NoExtendedPartition */
+    CV_TOO_FEW_SECTORS = 9,    /* NotEnoughSectorsToCreateLogicalPartition */
+    CV_BEFORE_EXTENDED = 10,   /* the EBR before the extended partition */
+    CV_NEAR_END = 11,          /* the EBR too near the extended partition's end */
+    CV_AFTER_END = 12,         /* the partition ends after the extended one */
+    CV_CYLINDER_1023 = 13,     /* a cylinder above 1,023 */
+    CV_CYLINDER_DISK = 14,     /* a cylinder above the disk's */
+    CV_NOT_FOUND = 15,         /* PartitionNotFound */
+    CV_NO_SPACE = 16,          /* NoSpaceLeft: the free list is empty */
+    CV_NO_SUCH_LOGICAL = 17,   /* a removal's number below 5 or absent */
+    CV_NO_LINK = 18,           /* a later logical partition lacks its link fields */
+    CV_OUTPUT_SHORT = 19,      /* the lent output is too short */
+    CV_NOT_SOUND = 20,         /* careful: the table is not sound */
+    CV_BEFORE_LAST = 21,       /* careful push starts before the last partition's end */
+    CV_TOO_MANY_RECORDS = 22,  /* a 65th record */
+    CV_BAD_REQUEST = 23,       /* careful push of type 0 or extended, or with more than 63 sectors in a geometry */
+    /* none of the library's own: */
+    CV_BLOCK_LENGTH = 101,     /* a lent block is not CV_BLOCK bytes */
+    CV_BLOCK_TAG = 102,        /* a tag in a block is neither 0 nor 1 */
+    CV_NOTHING = 255           /* no refusal: there is no such value (cv_wanted, cv_find_at_sector) */
+};
+
+/* An answer of 64 bits: the value in the lower half, or a refusal in the upper one. */
+static inline unsigned cv_refused(uint64_t answer) { return (unsigned)(answer >> 32); }
+static inline uint32_t cv_value(uint64_t answer) { return (uint32_t)answer; }
+
+/* An address: cylinder, head, sector in 16, 8 and 8 bits of the value. */
+static inline uint16_t cv_cylinder(uint64_t answer) { return (uint16_t)(cv_value(answer) >> 16); }
+static inline uint8_t cv_head(uint64_t answer) { return (uint8_t)(cv_value(answer) >> 8); }
+static inline uint8_t cv_sector(uint64_t answer) { return (uint8_t)answer; }
+
+/* An extract, all numbers little-endian u32: sector size, disk sectors D, record count n (0 to 64), 24, 24 + 4n, total
+ * length; then n LBAs, strictly ascending and below D; then n records, each the first 512 bytes of its sector. */
+#define CV_EXTRACT(n) (24 + 516 * (size_t)(n))
+
+/* A store: LBA (u32, little-endian) and 512 bytes. Careful changes ask for room for two. */
+#define CV_STORE 516
+#define CV_STORES 1032
+
+/* The listing asks for this room. */
+#define CV_LISTING 2048
+
+/* A table as a block, all numbers little-endian. Front: */
+#define CV_BLOCK 12108
+#define CV_SECTOR_SIZE 0 /* u32 */
+#define CV_DISK_SIZE 4   /* u32, sectors */
+#define CV_ALIGN 8       /* u32 */
+#define CV_COUNT 12      /* u32, logical partitions, at most 24 */
+#define CV_CYLINDERS 16  /* u16, with the next two the geometry; zeros for none */
+#define CV_HEADS 18      /* u8 */
+#define CV_SECTORS 19    /* u8 */
+/* Header: */
+#define CV_CODE 20                           /* 440 bytes */
+#define CV_DISK_SIGNATURE 460                /* 4 bytes */
+#define CV_COPY_MARK 464                     /* 2 bytes */
+#define CV_PRIMARY(i) (466 + 18 * (size_t)(i)) /* entry i, 0 to 3 */
+#define CV_BOOT_SIGNATURE 538                /* 2 bytes, 55 AA */
+/* Logical partitions, slot i, 0 to 23; those from the count on are unused: */
+#define CV_LOGICAL(i) (540 + 482 * (size_t)(i)) /* entry */
+#define CV_EBR_LBA 18                           /* in a slot: u32, absolute */
+#define CV_EBR_SECTORS 22                       /* tag, 0 absent or 1 present; u32 */
+#define CV_EBR_FIRST 27                         /* address */
+#define CV_EBR_LAST 31                          /* tag; address */
+#define CV_EBR_CODE 36                          /* 446 bytes */
+/* In an entry of 18: flag, first address, type, last address, start, sectors. An address: cylinder u16, head, sector. */
+#define CV_ENTRY_FIRST 1
+#define CV_ENTRY_TYPE 5
+#define CV_ENTRY_LAST 6
+#define CV_ENTRY_START 10
+#define CV_ENTRY_SECTORS 14
+
+/* libabi.a */
+
+/* The address of a sector; 7, 13, 14. */
+uint64_t cv_chs_from_lba_exact(uint32_t lba, uint16_t cylinders, uint8_t heads, uint8_t sectors);
+/* The cylinder that begins at a sector, or the next one; 7, 13, 14. */
+uint64_t cv_chs_from_lba_aligned(uint32_t lba, uint16_t cylinders, uint8_t heads, uint8_t sectors);
+/* The sector of an address; 7. */
+uint64_t cv_chs_to_lba(uint16_t cylinder, uint8_t head, uint8_t sector, uint8_t heads, uint8_t sectors);
+bool cv_chs_is_valid(uint16_t cylinder, uint8_t head, uint8_t sector, uint16_t cylinders, uint8_t heads, uint8_t sectors);
+/* 0, or 1 for an extract that breaks a rule. */
+uint8_t cv_extract_check(const uint8_t *x, size_t x_length);
+/* What looking up a sector says: 0, 1 or 2. */
+uint8_t cv_look_up_answer(const uint8_t *x, size_t x_length, uint32_t lba);
+/* The sector that reading looks at first and the extract has no record for; 1; CV_NOTHING. */
+uint64_t cv_wanted(const uint8_t *x, size_t x_length);
+/* Lays a record of 512 bytes over an extract: the new one's length; 1, 2, 22, 19. */
+uint64_t cv_lay_over(const uint8_t *x, size_t x_length, uint32_t lba, const uint8_t *record, size_t record_length,
+                     uint8_t *out, size_t out_length);
+/* The listing, or `refused ` and a number, as text: its length; 19. */
+uint64_t cv_listing(const uint8_t *x, size_t x_length, uint8_t *out, size_t out_length);
+
+/* libabicareful.a: the stores stand in `out` in the order in which they are to be written, each on the disk before the
+ * next one is. */
+
+/* Careful push: the number of stores; 1 to 7 of reading, 20, 23, push's, 12, 21, 19. `track` is the geometry's sectors. */
+uint64_t cv_careful_push(const uint8_t *x, size_t x_length, uint32_t align, uint16_t cylinders, uint8_t heads,
+                         uint8_t track, uint8_t type, uint32_t start, uint32_t sectors, uint8_t *out, size_t out_length);
+/* Careful removal of logical partition `number`, 5 and up: the number of stores; 1 to 7 of reading, 20, 17, 19. */
+uint64_t cv_careful_remove(const uint8_t *x, size_t x_length, uint32_t number, uint8_t *out, size_t out_length);
+
+/* libabitable.a */
+
+/* The table that an extract reads as, as a block: 0; 1 to 7 of reading, 101. */
+uint8_t cv_read(const uint8_t *x, size_t x_length, uint8_t *out, size_t out_length);
+/* push on the table of a block, the new table as a second block: the new partition's number; 101, 6, 102, push's, 101. */
+uint64_t cv_push(const uint8_t *block, size_t block_length, uint8_t type, uint32_t start, uint32_t sectors, uint8_t *out,
+                 size_t out_length);
+/* Removal of logical partition `number` from the table of a block, the new table as a second block: 0; 101, 6, 102, 17,
+ * 101. */
+uint8_t cv_remove(const uint8_t *block, size_t block_length, uint32_t number, uint8_t *out, size_t out_length);
+
+/* libabilook.a */
+
+/* The number of the partition at a sector, in the table of a block; 101, 6, 102, 7; CV_NOTHING. */
+uint64_t cv_find_at_sector(const uint8_t *block, size_t block_length, uint32_t sector);
+
+/* libabiwrite.a */
+
+/* Writes the table of a block over an extract, the new extract to `out`: its length, at most CV_EXTRACT(64); 101, 6, 102,
+ * 1, 3, 4, 2, 7, 13, 14, 18, 22, 19. The table as writing leaves it is not answered: read the new extract. */
+uint64_t cv_write_into(const uint8_t *block, size_t block_length, const uint8_t *x, size_t x_length, uint8_t *out,
+                       size_t out_length);
+
+#ifdef __cplusplus
+}
+#endif
+
+#endif

@@ -1,0 +1,3 @@
+// What the station's program says: refusals and failures, and what --help prints.
+pub mod help;
+pub mod say;

@@ -1,0 +1,136 @@
+// Stores on an open disk, each flushed to the medium before the next one, and read back.
+use disk::sectors;
+use said::say;
+use words::slices;
+
+// Puts the sector's old bytes back after a write that was cut short.
+fn undo(fd: i32, at: i64, old: &[u8]) {
+    let got = libc::pwrite(fd, old, at);
+    if io::count(got, old) != old.len() {
+        return say::failed(
+            b"a write was cut short, and its sector cannot be put back: list the disk before anything else",
+        );
+    }
+    if libc::fsync(fd) != 0 {
+        return say::failed(b"a write was cut short; its sector was put back, but not flushed");
+    }
+    say::failed(b"a write was cut short; its sector was put back");
+}
+
+// Writes the sector in one call.
+fn write_whole(fd: i32, at: i64, old: &[u8], new: &[u8]) -> bool {
+    let got = libc::pwrite(fd, new, at);
+    let n = io::count(got, new);
+    if n == new.len() {
+        return true;
+    }
+    if n == 0 {
+        say::failed(b"a sector of the disk cannot be written");
+        return false;
+    }
+    undo(fd, at, old);
+    false
+}
+
+// Waits until what was written is on the medium.
+fn flush(fd: i32) -> bool {
+    if libc::fsync(fd) == 0 {
+        return true;
+    }
+    say::failed(b"the disk cannot be flushed");
+    false
+}
+
+// Is what was written there?
+fn is_there(fd: i32, sector: u32, lba: u32, new: &[u8]) -> bool {
+    let mut space = io::buffer();
+    let back = slices::part_mut(&mut space, sector as usize);
+    if sectors::read_at(fd, sector, lba, back) {
+        if slices::same(back, new) {
+            return true;
+        }
+    }
+    say::failed(b"a sector does not read back as it was written");
+    false
+}
+
+// One record over the first bytes of its sector; the rest of the sector stays.
+fn put(fd: i32, sector: u32, lba: u32, record: &[u8]) -> bool {
+    let mut old_space = io::buffer();
+    let mut new_space = io::buffer();
+    let size = sector as usize;
+    if !sectors::read_at(fd, sector, lba, slices::part_mut(&mut old_space, size)) {
+        say::failed(b"a sector of the disk cannot be read");
+        return false;
+    }
+    slices::over(&mut new_space, &old_space);
+    slices::over(&mut new_space, record);
+    let old = slices::part(&old_space, size);
+    let new = slices::part(&new_space, size);
+    if !write_whole(fd, sectors::offset(sector, lba), old, new) {
+        return false;
+    }
+    if !flush(fd) {
+        return false;
+    }
+    is_there(fd, sector, lba, new)
+}
+
+// The LBA of a store.
+fn lba_of(s: &[u8]) -> u32 {
+    if s.len() < 4 {
+        return 0;
+    }
+    base::get32(s, 0)
+}
+
+// One store: its LBA and its record.
+fn put_store(fd: i32, sector: u32, s: &[u8]) -> bool {
+    if s.len() != 516 {
+        return false;
+    }
+    put(fd, sector, lba_of(s), slices::behind(s, 4))
+}
+
+// One or two stores, in their order.
+pub fn put_all(fd: i32, sector: u32, out: &[u8], n: usize) -> bool {
+    if !put_store(fd, sector, slices::part(out, 516)) {
+        return false;
+    }
+    if n < 2 {
+        return true;
+    }
+    put_store(fd, sector, slices::part(slices::behind(out, 516), 516))
+}
+
+// A byte as hex digits; the last of a line ends it.
+fn show_byte(b: u8, last: bool) {
+    io::print_hex(1, b as u64, 2);
+    if last {
+        io::write_all(1, b"\n");
+        return;
+    }
+    io::write_all(1, b" ");
+}
+
+// A record as hex digits, 16 bytes to a line.
+fn show_record(r: &[u8]) {
+    for i in 0..r.len() {
+        show_byte(r[i], i % 16 == 15);
+    }
+}
+
+fn show_store(s: &[u8]) {
+    io::write_all(1, b"store ");
+    io::print_decimal(1, lba_of(s) as u64);
+    io::write_all(1, b"\n");
+    show_record(slices::behind(s, 4));
+}
+
+// The stores on standard output.
+pub fn show_all(out: &[u8], n: usize) {
+    show_store(slices::part(out, 516));
+    if 2 <= n {
+        show_store(slices::part(slices::behind(out, 516), 516));
+    }
+}

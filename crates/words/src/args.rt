@@ -1,0 +1,156 @@
+// The program's arguments.
+use crate::slices;
+
+// What no number is read as.
+pub const NO_NUMBER: u64 = 4294967296;
+
+// An option's value, and how many arguments it took.
+pub struct Given {
+    pub value: u64,
+    pub words: u8,
+}
+
+// Is the argument this word?
+pub fn is(i: usize, word: &[u8]) -> bool {
+    let mut space = io::buffer();
+    let n = os::arg(i, &mut space);
+    slices::same(&space[..n], word)
+}
+
+// The number with one digit more behind it.
+fn longer(v: u64, b: u8) -> u64 {
+    if 4294967295 < v {
+        return NO_NUMBER;
+    }
+    if b < b'0' {
+        return NO_NUMBER;
+    }
+    if b'9' < b {
+        return NO_NUMBER;
+    }
+    let w = v * 10 + (b - b'0') as u64;
+    if 4294967295 < w {
+        return NO_NUMBER;
+    }
+    w
+}
+
+// The decimal number of at most 32 bits that the bytes spell.
+pub fn decimal(s: &[u8]) -> u64 {
+    if s.len() == 0 {
+        return NO_NUMBER;
+    }
+    let mut v: u64 = 0;
+    for i in 0..s.len() {
+        v = longer(v, s[i]);
+    }
+    v
+}
+
+// The number that the argument spells.
+pub fn number(i: usize) -> u64 {
+    let mut space = io::buffer();
+    let n = os::arg(i, &mut space);
+    decimal(&space[..n])
+}
+
+// The first argument from a place on that is this word; 0 if none is.
+pub fn find(from: usize, word: &[u8]) -> usize {
+    for i in from..16 {
+        if is(i, word) {
+            return i;
+        }
+    }
+    0
+}
+
+// The number behind an option from a place on, or what stands for it.
+pub fn option(from: usize, word: &[u8], other: u64) -> Given {
+    let i = find(from, word);
+    if i == 0 {
+        return Given {
+            value: other,
+            words: 0,
+        };
+    }
+    if 16 <= i {
+        return Given {
+            value: NO_NUMBER,
+            words: 0,
+        };
+    }
+    Given {
+        value: number(i + 1),
+        words: 2,
+    }
+}
+
+// How many arguments an option without a value takes: 1 if it is there.
+pub fn flag(from: usize, word: &[u8]) -> u8 {
+    if find(from, word) == 0 {
+        return 0;
+    }
+    1
+}
+
+// The value of a hex digit; 16 for another byte.
+fn digit(b: u8) -> u16 {
+    match b {
+        b'0'..=b'9' => (b - b'0') as u16,
+        b'a'..=b'f' => (b - b'a') as u16 + 10,
+        b'A'..=b'F' => (b - b'A') as u16 + 10,
+        _ => 256,
+    }
+}
+
+fn two(high: u16, low: u16) -> u16 {
+    if 15 < high {
+        return 256;
+    }
+    if 15 < low {
+        return 256;
+    }
+    high * 16 + low
+}
+
+// The byte that two hex digits spell; 256 for anything else.
+fn hex(s: &[u8]) -> u16 {
+    if s.len() != 2 {
+        return 256;
+    }
+    two(digit(s[0]), digit(s[1]))
+}
+
+// The type that the argument spells.
+pub fn kind(i: usize) -> u16 {
+    let mut space = io::buffer();
+    let n = os::arg(i, &mut space);
+    hex(&space[..n])
+}
+
+pub fn is_sector_size(n: u64) -> bool {
+    match n {
+        512 | 1024 | 2048 | 4096 => true,
+        _ => false,
+    }
+}
+
+// The command that the first argument names: 1 list, 2 extract, 3 push, 4 remove, 5 --help; 0 if it names none.
+pub fn command() -> u8 {
+    if is(1, b"list") {
+        return 1;
+    }
+    if is(1, b"extract") {
+        return 2;
+    }
+    if is(1, b"push") {
+        return 3;
+    }
+    if is(1, b"remove") {
+        return 4;
+    }
+    if is(1, b"--help") {
+        return 5;
+    }
+    0
+}

@@ -1,0 +1,4 @@
+// The arguments of the station's program, and parts of slices.
+pub mod args;
+pub mod geometry;
+pub mod slices;

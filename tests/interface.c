@@ -1,0 +1,235 @@
+/* Uses every function of include/crumbvessel.h on document 01's disk K and its numbers. Prints what fails. */
+#include <stdio.h>
+#include <string.h>
+
+#include "crumbvessel.h"
+
+static int failed, tried;
+
+static void is(int line, uint64_t got, uint64_t wanted)
+{
+    tried++;
+    if (got != wanted) {
+        failed++;
+        printf("line %d: %llu, not %llu\n", line, (unsigned long long)got, (unsigned long long)wanted);
+    }
+}
+
+#define IS(got, wanted) is(__LINE__, (uint64_t)(got), (uint64_t)(wanted))
+#define REFUSED(number) ((uint64_t)(number) << 32)
+
+static void put32(uint8_t *p, uint32_t v)
+{
+    for (int i = 0; i < 4; i++)
+        p[i] = (uint8_t)(v >> 8 * i);
+}
+
+static uint32_t get32(const uint8_t *p)
+{
+    return p[0] | (uint32_t)p[1] << 8 | (uint32_t)p[2] << 16 | (uint32_t)p[3] << 24;
+}
+
+/* Are n bytes all v? */
+static bool all(const uint8_t *p, size_t n, uint8_t v)
+{
+    for (size_t i = 0; i < n; i++)
+        if (p[i] != v)
+            return false;
+    return true;
+}
+
+static void entry(uint8_t *p, uint8_t type, uint32_t start, uint32_t sectors)
+{
+    p[4] = type;
+    put32(p + 8, start);
+    put32(p + 12, sectors);
+}
+
+static uint8_t k[CV_EXTRACT(2)];
+
+static void make_k(void)
+{
+    const uint32_t front[] = {512, 20480, 2, 24, 32, sizeof k, 0, 4096};
+    for (int i = 0; i < 8; i++)
+        put32(k + 4 * i, front[i]);
+    entry(k + 32 + 446, 0x05, 4096, 16384);
+    entry(k + 544 + 446, 0x83, 2048, 2048);
+    for (int i = 0; i < 2; i++)
+        memcpy(k + 32 + 512 * i + 510, "\x55\xAA", 2);
+}
+
+static void addresses(void)
+{
+    uint64_t a = cv_chs_from_lba_exact(2048, 1023, 255, 63);
+    IS(cv_refused(a), CV_DONE);
+    IS(cv_cylinder(a), 0);
+    IS(cv_head(a), 32);
+    IS(cv_sector(a), 33);
+    a = cv_chs_from_lba_exact(16450559, 1023, 255, 63);
+    IS(cv_cylinder(a), 1023);
+    IS(cv_head(a), 254);
+    IS(cv_sector(a), 63);
+    IS(cv_chs_is_valid(1023, 254, 63, 1023, 255, 63), false);
+    IS(cv_chs_is_valid(1022, 254, 63, 1023, 255, 63), true);
+    IS(cv_chs_from_lba_exact(16450560, 1023, 255, 63), REFUSED(CV_CYLINDER_1023));
+    IS(cv_chs_from_lba_exact(66, 10, 2, 3), REFUSED(CV_CYLINDER_DISK));
+    IS(cv_cylinder(cv_chs_from_lba_aligned(7, 10, 2, 3)), 2);
+    IS(cv_chs_from_lba_aligned(0, 10, 2, 3), REFUSED(CV_ARITHMETIC));
+    IS(cv_chs_to_lba(0, 32, 33, 255, 63), 2048);
+    IS(cv_chs_to_lba(0, 0, 0, 255, 63), REFUSED(CV_ARITHMETIC));
+}
+
+static void extracts(void)
+{
+    static const char text[] = "disk 20480 align 2048 logical 1\n1 05 00 4096 16384\n5 83 00 6144 2048\n";
+    uint8_t out[CV_LISTING];
+    IS(cv_extract_check(k, sizeof k), CV_DONE);
+    IS(cv_extract_check(k, sizeof k - 1), CV_BAD_EXTRACT);
+    IS(cv_extract_check(k, 0), CV_BAD_EXTRACT);
+    IS(cv_look_up_answer(k, sizeof k, 20479), CV_DONE);
+    IS(cv_look_up_answer(k, sizeof k, 20480), CV_PAST_DISK);
+    IS(cv_wanted(k, sizeof k), REFUSED(CV_NOTHING));
+    memset(out, 7, sizeof out);
+    IS(cv_listing(k, sizeof k, out, sizeof out - 1), REFUSED(CV_OUTPUT_SHORT));
+    IS(all(out, sizeof out, 7), true);
+    IS(cv_listing(k, sizeof k, out, sizeof out), sizeof text - 1);
+    IS(memcmp(out, text, sizeof text - 1), 0);
+    IS(all(out + sizeof text - 1, sizeof out - (sizeof text - 1), 7), true);
+}
+
+static uint64_t push(uint32_t start, uint32_t sectors, uint8_t *out)
+{
+    return cv_careful_push(k, sizeof k, 2048, 0, 0, 0, 0x83, start, sectors, out, CV_STORES);
+}
+
+static void careful_refusals(void)
+{
+    uint8_t out[CV_STORES];
+    memset(out, 7, sizeof out);
+    IS(push(16384, 4097, out), REFUSED(CV_AFTER_END));
+    IS(push(16385, 4096, out), REFUSED(CV_NEAR_END));
+    IS(push(2048, 4096, out), REFUSED(CV_BEFORE_EXTENDED));
+    IS(push(6144, 4096, out), REFUSED(CV_BEFORE_LAST));
+    IS(push(0, 4096, out), REFUSED(CV_ARITHMETIC));
+    IS(push(8192, 2048, out), REFUSED(CV_TOO_FEW_SECTORS));
+    IS(cv_careful_push(k, sizeof k, 2048, 0, 0, 0, 0, 8192, 4096, out, sizeof out), REFUSED(CV_BAD_REQUEST));
+    IS(cv_careful_push(k, sizeof k, 2048, 1023, 255, 64, 0x83, 8192, 4096, out, sizeof out), REFUSED(CV_BAD_REQUEST));
+    IS(cv_careful_push(k, sizeof k, 2048, 0, 0, 0, 0x83, 8192, 4096, out, sizeof out - 1), REFUSED(CV_OUTPUT_SHORT));
+    IS(cv_careful_push(k, sizeof k - 1, 2048, 0, 0, 0, 0x83, 8192, 4096, out, sizeof out), REFUSED(CV_BAD_EXTRACT));
+    IS(cv_careful_remove(k, sizeof k, 4, out, sizeof out), REFUSED(CV_NO_SUCH_LOGICAL));
+    IS(cv_careful_remove(k, sizeof k, 6, out, sizeof out), REFUSED(CV_NO_SUCH_LOGICAL));
+    IS(cv_careful_remove(k, sizeof k, 5, out, 0), REFUSED(CV_OUTPUT_SHORT));
+    IS(all(out, sizeof out, 7), true);
+}
+
+static void careful_changes(void)
+{
+    static const char text[] =
+        "disk 20480 align 2048 logical 2\n1 05 00 4096 16384\n5 83 00 6144 2048\n6 83 00 10240 2048\n";
+    uint8_t out[CV_STORES], same[CV_STORES], one[CV_EXTRACT(3)], two[CV_EXTRACT(3)], list[CV_LISTING];
+    IS(push(16384, 4096, out), 2);
+    IS(push(8192, 2049, out), 2);
+    IS(push(8191, 4096, same), 2);
+    IS(push(8192, 4096, out), 2);
+    IS(memcmp(out, same, sizeof out), 0);
+    IS(get32(out), 8192);
+    IS(get32(out + CV_STORE), 4096);
+    IS(cv_lay_over(k, sizeof k, 8192, out + 4, 512, one, sizeof one), sizeof one);
+    IS(cv_lay_over(one, sizeof one, 4096, out + CV_STORE + 4, 512, two, sizeof two), sizeof two);
+    IS(cv_listing(two, sizeof two, list, sizeof list), sizeof text - 1);
+    IS(memcmp(list, text, sizeof text - 1), 0);
+    memset(out, 7, sizeof out);
+    IS(cv_careful_remove(k, sizeof k, 5, out, sizeof out), 1);
+    IS(get32(out), 4096);
+    IS(all(out + 4, 512, 0), true);
+    IS(all(out + CV_STORE, CV_STORE, 7), true);
+}
+
+static void tables(void)
+{
+    static uint8_t t[CV_BLOCK], u[CV_BLOCK], v[CV_BLOCK];
+    const uint8_t *slot = u + CV_LOGICAL(1);
+    memset(t, 7, sizeof t);
+    IS(cv_read(k, sizeof k - 1, t, sizeof t), CV_BAD_EXTRACT);
+    IS(cv_read(k, sizeof k, t, sizeof t - 1), CV_BLOCK_LENGTH);
+    IS(all(t, sizeof t, 7), true);
+    IS(cv_read(k, sizeof k, t, sizeof t), CV_DONE);
+    IS(get32(t + CV_SECTOR_SIZE), 512);
+    IS(get32(t + CV_DISK_SIZE), 20480);
+    IS(get32(t + CV_ALIGN), 2048);
+    IS(get32(t + CV_COUNT), 1);
+    IS(t[CV_PRIMARY(0) + CV_ENTRY_TYPE], 0x05);
+    IS(get32(t + CV_PRIMARY(0) + CV_ENTRY_SECTORS), 16384);
+    IS(get32(t + CV_LOGICAL(0) + CV_ENTRY_START), 6144);
+    IS(get32(t + CV_LOGICAL(0) + CV_EBR_LBA), 4096);
+    IS(t[CV_LOGICAL(0) + CV_EBR_SECTORS], 0);
+    IS(cv_find_at_sector(t, sizeof t, 6144), 5);
+    IS(cv_find_at_sector(t, sizeof t, 8191), 5);
+    IS(cv_find_at_sector(t, sizeof t, 8192), REFUSED(CV_NOTHING));
+    IS(cv_find_at_sector(t, sizeof t, 4096), REFUSED(CV_NOTHING));
+    IS(cv_find_at_sector(t, sizeof t - 1, 6144), REFUSED(CV_BLOCK_LENGTH));
+    IS(cv_push(t, sizeof t, 0x83, 8192, 4096, u, sizeof u), 6);
+    IS(get32(u + CV_COUNT), 2);
+    IS(slot[CV_ENTRY_TYPE], 0x83);
+    IS(get32(slot + CV_ENTRY_START), 10240);
+    IS(get32(slot + CV_ENTRY_SECTORS), 2048);
+    IS(get32(slot + CV_EBR_LBA), 8192);
+    IS(slot[CV_EBR_SECTORS], 1);
+    IS(get32(slot + CV_EBR_SECTORS + 1), 4096);
+    IS(cv_remove(u, sizeof u, 5, v, sizeof v), CV_DONE);
+    IS(get32(v + CV_COUNT), 1);
+    IS(get32(v + CV_LOGICAL(0) + CV_ENTRY_START), 10240);
+}
+
+static void table_refusals(void)
+{
+    static uint8_t t[CV_BLOCK], u[CV_BLOCK];
+    IS(cv_read(k, sizeof k, t, sizeof t), CV_DONE);
+    memset(u, 7, sizeof u);
+    IS(cv_push(t, sizeof t, 0x83, 8192, 2048, u, sizeof u), REFUSED(CV_TOO_FEW_SECTORS));
+    IS(cv_push(t, sizeof t - 1, 0x83, 8192, 4096, u, sizeof u), REFUSED(CV_BLOCK_LENGTH));
+    IS(cv_push(t, sizeof t, 0x83, 8192, 4096, u, 0), REFUSED(CV_BLOCK_LENGTH));
+    IS(cv_remove(t, sizeof t, 6, u, sizeof u), CV_NO_SUCH_LOGICAL);
+    IS(cv_remove(t, 0, 5, u, sizeof u), CV_BLOCK_LENGTH);
+    t[CV_LOGICAL(23) + CV_EBR_LAST] = 2;
+    IS(cv_remove(t, sizeof t, 5, u, sizeof u), CV_BLOCK_TAG);
+    t[CV_COUNT] = 25;
+    IS(cv_remove(t, sizeof t, 5, u, sizeof u), CV_TOO_MANY);
+    IS(all(u, sizeof u, 7), true);
+}
+
+/* push on K, written: it lists as after the careful push. */
+static void writing(void)
+{
+    static const char text[] =
+        "disk 20480 align 2048 logical 2\n1 05 00 4096 16384\n5 83 00 6144 2048\n6 83 00 10240 2048\n";
+    static uint8_t t[CV_BLOCK], u[CV_BLOCK];
+    uint8_t out[CV_EXTRACT(3)], list[CV_LISTING];
+    IS(cv_read(k, sizeof k, t, sizeof t), CV_DONE);
+    IS(cv_push(t, sizeof t, 0x83, 8192, 4096, u, sizeof u), 6);
+    memset(out, 7, sizeof out);
+    IS(cv_write_into(u, sizeof u, k, sizeof k, out, sizeof out - 1), REFUSED(CV_OUTPUT_SHORT));
+    IS(cv_write_into(u, sizeof u, k, sizeof k - 1, out, sizeof out), REFUSED(CV_BAD_EXTRACT));
+    IS(cv_write_into(u, sizeof u - 1, k, sizeof k, out, sizeof out), REFUSED(CV_BLOCK_LENGTH));
+    u[CV_BOOT_SIGNATURE]++;
+    IS(cv_write_into(u, sizeof u, k, sizeof k, out, sizeof out), REFUSED(CV_SIGNATURE));
+    u[CV_BOOT_SIGNATURE]--;
+    IS(all(out, sizeof out, 7), true);
+    IS(cv_write_into(u, sizeof u, k, sizeof k, out, sizeof out), sizeof out);
+    IS(cv_listing(out, sizeof out, list, sizeof list), sizeof text - 1);
+    IS(memcmp(list, text, sizeof text - 1), 0);
+}
+
+int main(void)
+{
+    make_k();
+    addresses();
+    extracts();
+    careful_refusals();
+    careful_changes();
+    tables();
+    table_refusals();
+    writing();
+    printf("%d of %d answers as document 01 has them\n", tried - failed, tried);
+    return failed != 0;
+}

@@ -1,0 +1,357 @@
+"""Tests the station's program on images: python3 tests/station.py PROGRAM PRELOAD [SFDISK [STRACE]]
+
+Images with 1 to 24 logical partitions are made by sfdisk, images of every sector size by the second program. Each change is
+carried out whole, and then again and again with the program stopped before and after each call that writes, and with calls
+that fail or are cut short: from one on, one alone, and one with the program stopped right after it. Each time the image must
+read as the table before or the table after: by the program's own list, by the second program and, where it made the image,
+by sfdisk. One kind of stop is only counted: the sector that makes the change, cut within its record, and the program stopped
+before it puts the sector back. A store is one sector and the medium writes it whole or not at all; nothing can mend half of one.
+"""
+import os
+import random
+import re
+import subprocess
+import sys
+import tempfile
+from pathlib import Path
+
+HERE = Path(__file__).resolve().parent
+sys.path.insert(0, str(HERE.parent / "second"))
+import model as m  # noqa: E402
+import replay  # noqa: E402
+
+PROGRAM, PRELOAD = sys.argv[1], sys.argv[2]
+SFDISK = sys.argv[3] if len(sys.argv) > 3 and sys.argv[3] else None
+STRACE = sys.argv[4] if len(sys.argv) > 4 and sys.argv[4] else None
+WRITERS = "write,writev,pwrite64,pwritev,pwritev2,fsync,fdatasync,ftruncate,fallocate,copy_file_range,sendfile,mmap"
+counts = {"changes": 0, "stops": 0, "refused": 0, "half": 0, "other": 0, "traced": 0}
+
+
+def fail(what, *more):
+    sys.exit(" ".join(["station: not so:", what, *map(str, more)]))
+
+
+def run(*args, how=None, at=0, cut=0, log=None):
+    env = dict(os.environ)
+    if how or log:
+        env.update(LD_PRELOAD=PRELOAD, STATION_HOW=how or "", STATION_AT=str(at), STATION_CUT=str(cut))
+    if log:
+        env["STATION_LOG"] = log
+    return subprocess.run([PROGRAM, *map(str, args)], env=env, stdout=subprocess.PIPE, stderr=subprocess.PIPE)
+
+
+class Image:
+    """An image file; what a run changes is put back from the bytes of the sectors that matter."""
+
+    def __init__(self, path, size):
+        self.path, self.size = path, size
+        self.disk_size = os.path.getsize(path) // size
+
+    def sector(self, lba):
+        with open(self.path, "rb") as f:
+            f.seek(lba * self.size)
+            return f.read(self.size)
+
+    def put(self, lba, data):
+        with open(self.path, "r+b") as f:
+            f.seek(lba * self.size)
+            f.write(data)
+
+    def disk(self):
+        """The disk as the second program reads it, sector by sector."""
+        image = self
+
+        class Records(dict):
+            def get(self, lba, other):
+                return image.sector(lba)[:512]
+
+        return m.Disk(self.size, self.disk_size, Records())
+
+    def table(self):
+        return replay.contents(self.disk())
+
+    def extract(self):
+        disk = self.disk()
+        try:
+            m.read_disk(disk)
+        except m.Refusal:
+            pass
+        return m.extract_bytes(m.Disk(self.size, self.disk_size, {lba: self.sector(lba)[:512] for lba in disk.looked}))
+
+    def listed(self):
+        done = run("list", self.path, "--sector", self.size)
+        if done.stderr:
+            return done.stderr.decode().split(":")[0] + "\n"
+        return done.stdout.decode()
+
+
+def by_sfdisk(image):
+    """Start, sectors and type of each partition by sfdisk's dump."""
+    found = []
+    text = subprocess.run([SFDISK, "-d", image.path], stdout=subprocess.PIPE, stderr=subprocess.PIPE).stdout.decode()
+    for line in text.splitlines():
+        if "start=" in line:
+            fields = dict(f.strip().split("=") for f in line.split(":")[1].split(",") if "=" in f)
+            found.append((int(fields["start"]), int(fields["size"]), int(fields["type"], 16)))
+    return found
+
+
+def by_list(text):
+    rows = [line.split() for line in text.splitlines()[1:]]
+    return [(int(start), int(sectors), int(kind, 16)) for _, kind, _, start, sectors in rows]
+
+
+def views(image, sfdisk):
+    listed = image.listed()
+    seen = (image.table(), listed, by_sfdisk(image) if sfdisk else None)
+    if sfdisk and not listed.startswith("refused") and by_list(listed) != seen[2]:
+        fail("sfdisk lists the same", image.path, listed, seen[2])
+    if listed != m.listing(image.extract()):
+        fail("the second program lists the same", listed)
+    return seen
+
+
+def attempts(calls, size):
+    """How each call is stopped: what happens, at which call, after how many bytes. Calls with odd numbers write."""
+    for at in range(1, calls + 1):
+        yield from (("kill", at, 0), ("before", at, 0), ("fail", at, 0))
+    for at in range(1, calls, 2):
+        for cut in (0, 1, 446, 462, 463, 470, 474, 477, 511, 512, size - 512, size - 1):
+            if cut < size and (cut < 512 or size > 512):
+                yield from (("cut", at, cut), ("once", at, cut), ("torn", at, cut))
+
+
+def traced(args, image, stores):
+    """The calls that could write to the disk, by the system's own trace: each store, then a flush that answers 0."""
+    with tempfile.TemporaryDirectory() as folder:
+        done = subprocess.run([STRACE, "-f", "-o", folder + "/trace", "-e", "trace=" + WRITERS, PROGRAM, *map(str, args),
+                               "--sector", str(image.size)], stdout=subprocess.PIPE, stderr=subprocess.PIPE)
+        lines = Path(folder + "/trace").read_text().splitlines()
+    if done.stdout != b"done\n":
+        fail("done under strace", args, done)
+    seen = []
+    for line in lines:
+        call = re.match(r"\d+ +(\w+)\((.*)\) += (-?\w+)", line)
+        if not call or call[1] == "mmap" and ("PROT_WRITE" not in call[2] or "MAP_SHARED" not in call[2]):
+            continue
+        if call[1] == "write" and call[2][:2] in ("1,", "2,"):
+            continue
+        place = call[2].rsplit(", ", 2)[1:] if call[1] == "pwrite64" else []
+        seen.append((call[1], *map(int, place), call[3]))
+    want = [w for lba, _ in stores for w in (("pwrite64", image.size, lba * image.size, str(image.size)), ("fsync", "0"))]
+    if seen != want:
+        fail("the trace has each store, and a flush that answers 0 before the next", args, lines)
+    counts["traced"] += 1
+
+
+def put_back(image, kept):
+    for lba, data in kept.items():
+        image.put(lba, data)
+
+
+def dry(image, args, made, before, sfdisk):
+    done = run(*args, "--dry-run", "--sector", image.size)
+    want = "".join(f"store {lba}\n" + "".join(record[at:at + 16].hex(" ") + "\n" for at in range(0, 512, 16))
+                   for lba, record in made.stores) + "done\n"
+    if done.stdout.decode() != want or done.stderr or views(image, sfdisk) != before:
+        fail("a dry run prints the stores and changes nothing", args)
+
+
+def whole(image, args, made, kept):
+    """The change carried out, by the preload's log of the calls that write."""
+    with tempfile.TemporaryDirectory() as folder:
+        log = folder + "/log"
+        done = run(*args, "--sector", image.size, log=log)
+        trace = [line.split() for line in Path(log).read_text().splitlines()]
+    if done.stdout != b"done\n" or done.stderr:
+        fail("done", args, done)
+    want = [w for lba, _ in made.stores for w in (["pwrite", str(lba * image.size), str(image.size)], ["fsync", "0", "0"])]
+    if trace != want:
+        fail("each store is written in one call, and flushed before the next", args, trace)
+    for lba, record in made.stores:
+        if image.sector(lba) != record + kept[lba][512:]:
+            fail("the record is stored, and the rest of its sector stays", args)
+    return len(trace)
+
+
+def half(image):
+    """What a record cut in half reads as is nobody's promise; our two readers agree on it."""
+    counts["half"] += 1
+    listed = image.listed()
+    if listed != m.listing(image.extract()):
+        fail("the second program lists the same", listed)
+    return image.table(), listed
+
+
+def stop(image, args, how, at, cut, kept, stores):
+    stopped = run(*args, "--sector", image.size, how=how, at=at, cut=cut)
+    counts["stops"] += 1
+    if how in ("fail", "cut", "once") and (stopped.stdout != b"failed\n" or not stopped.stderr):
+        fail("a failure is said", args, how, at, cut, stopped)
+    if how not in ("fail", "cut", "once") and (stopped.stdout or stopped.returncode != -9):
+        fail("the program was stopped", args, how, at, cut, stopped)
+    lba = stores[(at - 1) // 2][0]
+    if how == "once" and image.sector(lba) != kept[lba]:
+        fail("a sector cut short is put back", args, at, cut)
+    if how == "once" and cut and b"was put back" not in stopped.stderr:
+        fail("it is said that a sector was put back", args, at, cut, stopped)
+    if image.sector(lba)[512:] != kept[lba][512:]:
+        fail("the rest of a sector stays", args, how, at, cut)
+
+
+def try_change(image, args, made, sfdisk=False):
+    """One change: whole, then stopped in every way."""
+    counts["changes"] += 1
+    before = views(image, sfdisk)
+    kept = {lba: image.sector(lba) for lba, _ in made.stores}
+    dry(image, args, made, before, sfdisk)
+    calls = whole(image, args, made, kept)
+    after = views(image, sfdisk)
+    if after[0] != replay.contents_of(made.table):
+        fail("the table after", args)
+    if STRACE:
+        put_back(image, kept)
+        traced(args, image, made.stores)
+    for how, at, cut in attempts(calls, image.size):
+        put_back(image, kept)
+        stop(image, args, how, at, cut, kept, made.stores)
+        if how == "torn" and at == calls - 1 and 0 < cut < 512:
+            counts["other"] += half(image) not in (before[:2], after[:2])
+        elif views(image, sfdisk) not in (before, after):
+            fail("the table before or the table after", args, how, at, cut)
+    put_back(image, kept)
+
+
+def answered(f, *args):
+    try:
+        return f(*args)
+    except m.Refusal as r:
+        return r.number
+
+
+def push(image, request, sfdisk=False):
+    align, geometry, sys_, start, sectors = request
+    made = answered(m.careful_push, image.extract(), *request, bytearray(1032))
+    args = ["push", image.path, f"{sys_:02X}", start, sectors, "--align", align, "--geometry", "/".join(map(str, geometry))]
+    judged(image, args, made, sfdisk)
+
+
+def remove(image, number, sfdisk=False):
+    made = answered(m.careful_removal, image.extract(), number, bytearray(1032))
+    judged(image, ["remove", image.path, number], made, sfdisk)
+
+
+def judged(image, args, made, sfdisk):
+    if not isinstance(made, int):
+        return try_change(image, args, made, sfdisk)
+    counts["refused"] += 1
+    said = run(*args, "--sector", image.size)
+    if said.stdout.decode() != f"refused {made}\n" or not said.stderr.decode().startswith(f"refused {made}:"):
+        fail("refused", made, args, said)
+
+
+def from_sfdisk(folder, n):
+    """An image with n logical partitions, made by sfdisk."""
+    path = f"{folder}/s{n}.img"
+    with open(path, "wb") as f:
+        f.truncate(512 * 200000)
+    script = ["label: dos", "2048,4096,83", "8192,180000,5"]
+    at = 8192
+    for _ in range(n):
+        script.append(f"{at + 2048},2048,83")
+        at += 4096
+    done = subprocess.run([SFDISK, "-q", path], input="\n".join(script).encode(), stdout=subprocess.PIPE, stderr=subprocess.PIPE)
+    if done.returncode != 0:
+        fail("sfdisk makes an image", done.stderr.decode())
+    return Image(path, 512)
+
+
+def with_sfdisk(folder):
+    for n in range(1, 25):
+        image = from_sfdisk(folder, n)
+        if f"logical {n}\n" not in image.listed():
+            fail("all logical partitions of sfdisk's image are listed", n, image.listed())
+        end = 8192 + 4096 * n
+        push(image, (2048, m.Geometry(0, 0, 0), 0x83, end, 6144), True)
+        push(image, (2048, m.Geometry(1023, 255, 63), 0x07, end + 2048, 6144), True)
+        for number in sorted({5, 5 + n // 2, 4 + n}):
+            remove(image, number, True)
+        os.unlink(image.path)
+
+
+def from_second(folder, rng):
+    """An image of a disk that the second program generated, of any sector size, its other bytes not zero."""
+    while True:
+        disk = m.extract_disk(replay.sound_disk(rng))
+        if disk.disk_size < 5 * 10 ** 6:
+            break
+    path = folder + "/g.img"
+    with open(path, "wb") as f:
+        f.truncate(disk.disk_size * disk.sector_size)
+        for lba, record in disk.records.items():
+            f.seek(lba * disk.sector_size)
+            f.write(record + rng.randbytes(disk.sector_size - 512))
+    return Image(path, disk.sector_size)
+
+
+def with_second(folder, images):
+    rng = random.Random(40)
+    for _ in range(images):
+        image = from_second(folder, rng)
+        t = m.read_table(image.extract())
+        for _ in range(3):
+            push(image, replay.any_push(rng, t))
+        for number in sorted(replay.numbers(rng, t)):
+            remove(image, number)
+
+
+def sizes(folder):
+    """A size that is no whole number of sectors, or of too many, is refused 1 by every command; the largest is not."""
+    path = folder + "/odd.img"
+    for size, odd in ((512 * 100 + 1, True), (511, True), (512 << 32, True), ((512 << 32) - 512, False)):
+        with open(path, "wb") as f:
+            try:
+                f.truncate(size)
+            except OSError:
+                continue
+        for args in (("list", path), ("extract", path)):
+            said = run(*args)
+            if odd and (said.stdout or not said.stderr.startswith(b"refused 1:")):
+                fail("refused 1", args, said)
+            if not odd and said.stderr.startswith(b"refused 1:"):
+                fail("not refused 1", args, said)
+        for args in (("push", path, "83", 2048, 4096), ("remove", path, 5)):
+            said = run(*args)
+            if (said.stdout == b"refused 1\n") != odd or said.stderr.startswith(b"refused 1:") != odd:
+                fail("refused 1 exactly for such a size", args, said)
+    os.unlink(path)
+
+
+def arguments(folder):
+    """--help of each command; arguments that are not understood; a disk that is not there."""
+    every = run("--help").stdout
+    for command in ("list", "extract", "push", "remove"):
+        told = run(command, "--help")
+        if told.stderr or not told.stdout.startswith(f"station {command} DISK".encode()) or told.stdout not in every:
+            fail("--help", command, told)
+        last = b"failed\n" if command in ("push", "remove") else b""
+        absent = [command, folder + "/absent", *{"push": ("83", 2048, 4096), "remove": (5,)}.get(command, ())]
+        for args in ([command], [*absent, "more"], [*absent, "--sector", 513], [*absent, "--sector"], absent):
+            said = run(*args)
+            if said.stdout != last or b"failed: " not in said.stderr:
+                fail("a failure is said", args, said)
+
+
+if __name__ == "__main__":
+    with tempfile.TemporaryDirectory() as folder:
+        arguments(folder)
+        sizes(folder)
+        if SFDISK:
+            with_sfdisk(folder)
+        with_second(folder, 60)
+    print("station: {changes} changes, whole and then stopped {stops} times, and {refused} refusals hold".format(**counts)
+          + ("" if SFDISK else "; there was no sfdisk"))
+    print("station: {half} of the stops left half a record in the sector that makes the change; {other} of them read as a third "
+          "table".format(**counts))
+    print("station: {traced} changes traced by strace: each store, then a flush answered 0, then the next".format(**counts)
+          if STRACE else "station: there was no strace; the order of stores and flushes is by the preload's log")

@@ -52,6 +52,16 @@ alignedSaid (Refused k) = refuses k
 abbrev pub startsIn : Starts → List ℕ
 startsIn s = take (s .count) (s .at)
 
+-- the lowest number above 0, where a search may begin; 0 if there is none
+unfoldable pub lowerOf : ℕ → ℕ → ℕ
+lowerOf zero b = b
+lowerOf (suc a) zero = suc a
+lowerOf (suc a) (suc b) = min (suc a) (suc b)
+
+unfoldable pub lowest : List ℕ → ℕ
+lowest [] = 0
+lowest (s ∷ ss) = lowerOf s (lowest ss)
+
 -- the rule in other words: k divides them all, and no larger number up to n does
 pub record Largest (k n : ℕ) (ss : List ℕ) : Type 0 where
   pub above : 1 ≤ k

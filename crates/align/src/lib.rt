@@ -3,9 +3,9 @@ use entry::MBRPartitionEntry;
 use table::MBR;
 ghost use mathlib.Core.Path.{_≡_};
 ghost use mathlib.Core.List.{_++_, [], _∷_};
-ghost use Prim.Native.Nat.{_+_, _≤_, _<_, min, max};
+ghost use Prim.Native.Nat.{_+_, _≤_, _<_, min};
 ghost use lib.ListN.{length, take};
-ghost use Rattle.align.specs.Align.{usedStarts, dividesAll, largest, alignment, alignedSaid, startsIn};
+ghost use Rattle.align.specs.Align.{usedStarts, dividesAll, lowerOf, lowest, alignment, alignedSaid, startsIn};
 
 // An alignment, or a refusal's number.
 pub enum Aligned {
@@ -67,21 +67,28 @@ fn divides_all(starts: &[u32], k: u32) -> bool
     true
 }
 
-// The largest number; 0 if there is none.
-fn largest_of(starts: &[u32]) -> u32
-    ensures { λ r. ⌜ r ≡ largest (now (starts .entry)) ⌝ }
+// The lowest number above 0; 0 if there is none.
+fn lowest_of(starts: &[u32]) -> u32
+    ensures { λ r. ⌜ r ≡ lowest (now (starts .entry)) ⌝ }
 {
-    let mut most = 0;
+    let mut least = 0;
     for i in 0..starts.len() {
-        most = larger(most, starts[i]);
+        least = lower(least, starts[i]);
     }
-    most
+    least
 }
 
-fn larger(a: u32, b: u32) -> u32
-    ensures { λ r. ⌜ r ≡ max a b ⌝ }
+// The lower of two numbers, 0 left aside.
+fn lower(a: u32, b: u32) -> u32
+    ensures { λ r. ⌜ r ≡ lowerOf a b ⌝ }
 {
-    if a < b { b } else { a }
+    if a == 0 {
+        return b;
+    }
+    if b == 0 {
+        return a;
+    }
+    smaller(a, b)
 }
 
 fn smaller(a: u32, b: u32) -> u32
@@ -90,14 +97,15 @@ fn smaller(a: u32, b: u32) -> u32
     if a < b { a } else { b }
 }
 
-// The alignment of used starts: 7 where all are zero.
+// The alignment of used starts: 7 where all are zero. No number above a start that is not 0 divides it, so the search
+// counts down from the lowest of them.
 pub fn find_alignment(starts: &[u32]) -> Aligned
     ensures { λ r. ⌜ alignedSaid r ≡ alignment (now (starts .entry)) ⌝ }
 {
     if starts.len() == 0 {
         return Aligned::Align(MBR::DEFAULT_ALIGN);
     }
-    let top = smaller(MBR::MAX_ALIGN, largest_of(starts));
+    let top = smaller(MBR::MAX_ALIGN, lowest_of(starts));
     let mut k = top;
     while 0 < k {
         if divides_all(starts, k) {

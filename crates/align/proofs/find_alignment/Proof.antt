@@ -1,5 +1,5 @@
 use Rattle.align.proofs.Laws.{align-none, align-some, align-seven, divisor-hit, divisor-miss, divisor-none}
-use Rattle.align.specs.Align.{divisorTo, largest}
+use Rattle.align.specs.Align.{divisorTo, lowest}
 use borrow.Author.Needs.{needs}
 use Prim.Native.Nat.{ℕ, _≤_, min}
 use mathlib.Core.List.{List}
@@ -16,8 +16,8 @@ abbrev μ-loop : tie.MeasureT-loop
 returns : tie.Need-returns Inv-loop μ-loop
 returns c = sym (align-none (c .before .before .args .starts .now) (c .if1 .taken))
 
-largest-of-requires : tie.Need-largest-of-requires Inv-loop μ-loop
-largest-of-requires c κs = search needs
+lowest-of-requires : tie.Need-lowest-of-requires Inv-loop μ-loop
+lowest-of-requires c κs = search needs
 
 smaller-requires : tie.Need-smaller-requires Inv-loop μ-loop
 smaller-requires c κs = search needs
@@ -32,7 +32,7 @@ returns-2 : tie.Need-returns-2 Inv-loop μ-loop
 returns-2 c =
     let s : List ℕ = c .before .before .before .before .before .before .before .before .args .starts .now in
     let l = c .before .before .before .loop in
-    let e : min 16384 (largest s) ≡ c .before .before .before .before .smaller .result = ap (min 16384) (sym (c .before .before .before .before .before .largest-of .ensures)) ∙ sym (c .before .before .before .before .smaller .ensures) in
+    let e : min 16384 (lowest s) ≡ c .before .before .before .before .smaller .result = ap (min 16384) (sym (c .before .before .before .before .before .lowest-of .ensures)) ∙ sym (c .before .before .before .before .smaller .ensures) in
     let d = sym (c .before .divides-all .ensures) ∙ c .if2 .taken in
     sym (align-some s (l .k) (c .before .before .before .before .before .before .if1 .left) (ap (λ (n : ℕ). divisorTo n s) e ∙ l .inv .1 ∙ divisor-hit (l .k) s (search needs) d))
 
@@ -53,7 +53,7 @@ returns-3 : tie.Need-returns-3 Inv-loop μ-loop
 returns-3 c =
     let s : List ℕ = c .before .before .before .before .before .before .args .starts .now in
     let l = c .before .loop in
-    let e : min 16384 (largest s) ≡ c .before .before .smaller .result = ap (min 16384) (sym (c .before .before .before .largest-of .ensures)) ∙ sym (c .before .before .smaller .ensures) in
+    let e : min 16384 (lowest s) ≡ c .before .before .smaller .result = ap (min 16384) (sym (c .before .before .before .lowest-of .ensures)) ∙ sym (c .before .before .smaller .ensures) in
     let z : l .k ≡ 0 = search needs in
     sym (align-seven s (c .before .before .before .before .if1 .left) (ap (λ (n : ℕ). divisorTo n s) e ∙ l .inv .1 ∙ divisor-none (l .k) s z))
 
@@ -64,7 +64,7 @@ find-alignment-spec =
     Inv-loop
     μ-loop
     returns
-    largest-of-requires
+    lowest-of-requires
     smaller-requires
     loop-holds
     divides-all-requires

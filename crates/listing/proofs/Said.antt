@@ -1,13 +1,13 @@
 -- What is printed for what was read. Assumes nothing.
-use mathlib.Core.Path.{_≡_, refl, sym, ap, _∙_}
-use mathlib.Core.List.{List, []}
+use mathlib.Core.Path.{_≡_, refl}
+use mathlib.Core.List.{List}
 use mathlib.Core.Option.{none, some}
 use Prim.Native.Nat.{ℕ}
 use native.Mathlib.Omega.{arith}
-use lib.ListN.{length}
 use Rattle.base.specs.Said.{Said, gives, refuses, failure}
 use Rattle.read.specs.Read.{Table, readSays, tableFor}
-use Rattle.listing.specs.Listing.{saidText, listing, tableText, refusedText}
+use Rattle.listing.specs.Listing.{saidText, listing, tableText}
+use Rattle.text.specs.Words.{refusedText}
 
 text-refused : (s : Said Table) (k : ℕ) → failure s ≡ some k → saidText s ≡ refusedText k
 text-refused (gives t) k h = let w : _≡_ {A = ℕ} 0 1 = cc in absurd (omega arith)

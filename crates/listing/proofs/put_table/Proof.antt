@@ -1,5 +1,7 @@
-use Rattle.listing.proofs.Text.{Written, then}
-use Rattle.listing.specs.Listing.{firstLine, entryLines, tableText}
+use Rattle.text.proofs.Text.{Written, then}
+use Rattle.text.specs.Words.{firstLine}
+use Rattle.entrylines.specs.Lines.{entryLines}
+use Rattle.listing.specs.Listing.{tableText}
 use Rattle.table.specs.Table.{logicals, parts}
 use Rattle.mbr.specs.Mbr.{primaries}
 use native.Mathlib.Omega.{arith}

@@ -1,12 +1,12 @@
-use Rattle.listing.proofs.Text.{ten, Written, then}
-use Rattle.listing.specs.Listing.{entryLine}
-use Rattle.listing.specs.Text.{decimal, hex, spaced, newline}
+use Rattle.text.proofs.Text.{ten, Written, then}
+use Rattle.entrylines.specs.Lines.{entryLine}
+use Rattle.text.specs.Text.{decimal, hex, spaced, newline}
 use native.Mathlib.Omega.{arith}
 use mathlib.Core.List.{_++_}
 use mathlib.Core.Path.{refl}
 use borrow.Author.Needs.{needs}
-use Rattle.listing.proofs.put_entry.Statement.{statement}
-use Rattle.listing.proofs.put_entry.Tie as tie
+use Rattle.entrylines.proofs.put_entry.Statement.{statement}
+use Rattle.entrylines.proofs.put_entry.Tie as tie
 
 put-number-requires : tie.Need-put-number-requires
 put-number-requires c κs =

@@ -1,11 +1,11 @@
-use Rattle.listing.proofs.Lines.{lines-four}
-use Rattle.listing.proofs.Text.{Written, then}
-use Rattle.listing.specs.Listing.{usedLine}
+use Rattle.entrylines.proofs.Lines.{lines-four}
+use Rattle.text.proofs.Text.{Written, then}
+use Rattle.entrylines.specs.Lines.{usedLine}
 use native.Mathlib.Omega.{arith}
 use mathlib.Core.List.{_++_}
 use borrow.Author.Needs.{needs}
-use Rattle.listing.proofs.put_primaries.Statement.{statement}
-use Rattle.listing.proofs.put_primaries.Tie as tie
+use Rattle.entrylines.proofs.put_primaries.Statement.{statement}
+use Rattle.entrylines.proofs.put_primaries.Tie as tie
 
 put-used-requires : tie.Need-put-used-requires
 put-used-requires c κs = search needs

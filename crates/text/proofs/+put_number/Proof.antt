@@ -1,15 +1,15 @@
-use Rattle.listing.proofs.Text.{length-one, length-more, decimal-one, digit-behind}
+use Rattle.text.proofs.Text.{length-one, length-more, decimal-one, digit-behind}
 use borrow.Author.Needs.{needs}
 use native.Mathlib.Omega.{arith}
 use Prim.Native.Nat.{ℕ, _<_}
 use borrow.Fn.Kinds.{In}
 use borrow.Fn.PlainCycle.{Measures, is, falls, and}
-use Rattle.listing.proofs.put_number.Reads as put-number
-use Rattle.listing.proofs.put_number.Kinds as put-number-kinds
-use Rattle.listing.proofs.+put_number.Lts-put_number as put-number-lts
+use Rattle.text.proofs.put_number.Reads as put-number
+use Rattle.text.proofs.put_number.Kinds as put-number-kinds
+use Rattle.text.proofs.+put_number.Lts-put_number as put-number-lts
 use Rattle.base.proofs.put8.Reads as put8-reads
-use Rattle.listing.proofs.+put_number.{statement}
-use Rattle.listing.proofs.+put_number.Tie.{close}
+use Rattle.text.proofs.+put_number.{statement}
+use Rattle.text.proofs.+put_number.Tie.{close}
 
 abbrev μ-put-number : Measures 1 put-number-kinds.ps ℕ
 μ-put-number κs a = a .1 .1 .0

@@ -1,18 +1,18 @@
 use native.Mathlib.Nat.{add-zero}
-use Rattle.listing.proofs.Lines.{lines-more}
-use Rattle.listing.proofs.Text.{Written, then, put-none}
-use Rattle.listing.specs.Listing.{entryLines}
+use Rattle.entrylines.proofs.Lines.{lines-more}
+use Rattle.text.proofs.Text.{Written, then, put-none}
+use Rattle.entrylines.specs.Lines.{entryLines}
 use Rattle.table.specs.Table.{parts}
 use borrow.Author.Needs.{needs}
 use lib.ListN.{length, take, length-map}
 use native.Mathlib.Omega.{arith}
 use Prim.Native.Nat.{_+_, _*_, _-_, _≤_}
 use mathlib.Core.Path.{_≡_, refl, sym, ap, _∙_}
-use Rattle.listing.proofs.put_logicals.Statement.{statement}
-use Rattle.listing.proofs.put_logicals.Tie as tie
-use Rattle.listing.proofs.put_logicals.Reads as reads
-use Rattle.listing.proofs.put_logicals.Lts as lts
-use Rattle.listing.proofs.put_used.Reads as put-used-reads
+use Rattle.entrylines.proofs.put_logicals.Statement.{statement}
+use Rattle.entrylines.proofs.put_logicals.Tie as tie
+use Rattle.entrylines.proofs.put_logicals.Reads as reads
+use Rattle.entrylines.proofs.put_logicals.Lts as lts
+use Rattle.entrylines.proofs.put_used.Reads as put-used-reads
 
 abbrev Inv-loop : tie.InvT-loop
 Inv-loop d₀ at t end₀ n i₀ d end i =

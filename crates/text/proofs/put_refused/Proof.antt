@@ -1,12 +1,12 @@
-use Rattle.listing.proofs.Text.{decimal-short, Written, then}
-use Rattle.listing.specs.Listing.{refusedText, refusedWord}
-use Rattle.listing.specs.Text.{decimal, newline}
+use Rattle.text.proofs.Text.{decimal-short, Written, then}
+use Rattle.text.specs.Words.{refusedText, refusedWord}
+use Rattle.text.specs.Text.{decimal, newline}
 use native.Mathlib.Omega.{arith}
 use mathlib.Core.List.{_++_}
 use mathlib.Core.Path.{refl, _∙_}
 use borrow.Author.Needs.{needs}
-use Rattle.listing.proofs.put_refused.Statement.{statement}
-use Rattle.listing.proofs.put_refused.Tie as tie
+use Rattle.text.proofs.put_refused.Statement.{statement}
+use Rattle.text.proofs.put_refused.Tie as tie
 
 slice-aggregate-copy-in : tie.Need-slice-aggregate-copy-in
 slice-aggregate-copy-in c = search needs

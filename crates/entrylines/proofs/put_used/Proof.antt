@@ -1,10 +1,10 @@
-use Rattle.listing.proofs.Text.{put-none}
+use Rattle.text.proofs.Text.{put-none}
 use borrow.Author.Tests.{eq-eqb, ne-eqb}
 use native.Mathlib.Nat.{add-zero}
 use mathlib.Core.Path.{sym}
 use borrow.Author.Needs.{needs}
-use Rattle.listing.proofs.put_used.Statement.{statement}
-use Rattle.listing.proofs.put_used.Tie as tie
+use Rattle.entrylines.proofs.put_used.Statement.{statement}
+use Rattle.entrylines.proofs.put_used.Tie as tie
 
 returns : tie.Need-returns
 returns c =

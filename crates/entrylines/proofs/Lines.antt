@@ -1,32 +1,18 @@
--- Laws of the listing's lines. Assumes nothing.
-use mathlib.Core.Path.{_≡_, refl, sym, ap, _∙_}
-use mathlib.Core.List.{List, [], _∷_, _++_, append-assoc, append-nil, map}
-use Prim.Native.Nat.{ℕ, zero, suc, _+_, _≤_, _<_}
+-- Laws of the lines of entries. Assumes nothing.
+use mathlib.Core.Path.{_≡_, refl, ap, _∙_}
+use mathlib.Core.List.{List, [], _∷_, _++_, append-assoc, append-nil}
+use Prim.Native.Nat.{ℕ, suc, _+_, _<_}
 use native.Mathlib.Nat.{add-zero}
 use native.Mathlib.Numerals.{add-one}
 use native.Mathlib.Omega.{arith}
 use lib.ListN.{length, take, getD, length-map}
 use lib.Seq.{take-suc, length-take-le}
-use Rattle.base.specs.Said.{Said, gives, refuses}
 use Rattle.entry.specs.declared.MBRPartitionEntry.{MBRPartitionEntry}
 use Rattle.mbr.specs.declared.MBRHeader.{MBRHeader}
 use Rattle.mbr.specs.Mbr.{primaries}
 use Rattle.table.specs.declared.LogicalPartition.{LogicalPartition}
 use Rattle.table.specs.Table.{parts, noLogical}
-use Rattle.listing.specs.declared.Listed.{Listed}
-use Rattle.listing.specs.declared.Listed.the-variants.{Length, Refused}
-use Rattle.listing.specs.Listing.{usedLine, entryLines, listed}
-
--- what an answer says determines it
-pub listed-injective : (a b : Listed) → listed a ≡ listed b → a ≡ b
-listed-injective (Length n) (Length m) h =
-    let e : n ≡ m = cc in
-    ap Length e
-listed-injective (Length n) (Refused k) h = let w : _≡_ {A = ℕ} 0 1 = cc in absurd (omega arith)
-listed-injective (Refused k) (Length n) h = let w : _≡_ {A = ℕ} 0 1 = cc in absurd (omega arith)
-listed-injective (Refused k) (Refused j) h =
-    let e : k ≡ j = cc in
-    ap Refused e
+use Rattle.entrylines.specs.Lines.{usedLine, entryLines}
 
 -- the lines of a list and of what follows it
 pub lines-append : (n : ℕ) (es fs : List MBRPartitionEntry) → entryLines n (es ++ fs) ≡ entryLines n es ++ entryLines (n + length es) fs

@@ -1,5 +1,5 @@
 -- Laws of numbers as text. Assumes nothing.
-use mathlib.Core.Path.{_≡_, refl, sym, ap, _∙_}
+use mathlib.Core.Path.{_≡_, refl, ap, _∙_}
 use mathlib.Core.List.{List, [], _∷_, _++_, append-nil}
 use mathlib.Core.Bool.{Bool, true, false}
 use Prim.Native.Nat.{ℕ, zero, suc, _+_, _*_, _/_, _%_, _^_, _≤_, _<_}
@@ -11,7 +11,7 @@ use borrow.Author.Tests.{lt-ltb, le-ltb, ltb-true, ltb-false}
 use Rattle.base.specs.Pick.{pick}
 use Rattle.base.specs.Put.{put}
 use Rattle.base.proofs.Put.{behind}
-use Rattle.listing.specs.Text.{decimalIn, decimal, hexDigit, hex, space}
+use Rattle.text.specs.Text.{decimalIn, decimal, hexDigit, hex, space}
 
 -- more room for digits than needed changes nothing
 enough : (k m n : ℕ) → n ≤ k → n ≤ m → decimalIn k n ≡ decimalIn m n

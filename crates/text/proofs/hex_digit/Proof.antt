@@ -1,8 +1,8 @@
-use Rattle.listing.specs.Text.{hexDigit}
+use Rattle.text.specs.Text.{hexDigit}
 use Rattle.base.proofs.Tests.{tests}
 use borrow.Author.Needs.{needs}
-use Rattle.listing.proofs.hex_digit.Statement.{statement}
-use Rattle.listing.proofs.hex_digit.Tie as tie
+use Rattle.text.proofs.hex_digit.Statement.{statement}
+use Rattle.text.proofs.hex_digit.Tie as tie
 
 add-result : tie.Need-add-result
 add-result c = search needs

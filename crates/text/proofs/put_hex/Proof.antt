@@ -1,8 +1,8 @@
-use Rattle.listing.proofs.Text.{hex-written}
+use Rattle.text.proofs.Text.{hex-written}
 use mathlib.Core.Path.{refl}
 use borrow.Author.Needs.{needs}
-use Rattle.listing.proofs.put_hex.Statement.{statement}
-use Rattle.listing.proofs.put_hex.Tie as tie
+use Rattle.text.proofs.put_hex.Statement.{statement}
+use Rattle.text.proofs.put_hex.Tie as tie
 
 put8-requires : tie.Need-put8-requires
 put8-requires c κs = search needs

@@ -1,12 +1,12 @@
-use Rattle.listing.proofs.Text.{ten, Written, then}
-use Rattle.listing.specs.Listing.{firstLine, diskWord, alignWord, logicalWord}
-use Rattle.listing.specs.Text.{decimal, newline}
+use Rattle.text.proofs.Text.{ten, Written, then}
+use Rattle.text.specs.Words.{firstLine, diskWord, alignWord, logicalWord}
+use Rattle.text.specs.Text.{decimal, newline}
 use native.Mathlib.Omega.{arith}
 use mathlib.Core.List.{_++_}
 use mathlib.Core.Path.{refl, _∙_}
 use borrow.Author.Needs.{needs}
-use Rattle.listing.proofs.put_first.Statement.{statement}
-use Rattle.listing.proofs.put_first.Tie as tie
+use Rattle.text.proofs.put_first.Statement.{statement}
+use Rattle.text.proofs.put_first.Tie as tie
 
 slice-aggregate-copy-in : tie.Need-slice-aggregate-copy-in
 slice-aggregate-copy-in c = search needs

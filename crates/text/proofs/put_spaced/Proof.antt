@@ -1,11 +1,11 @@
-use Rattle.listing.proofs.Text.{ten, Written, then}
-use Rattle.listing.specs.Text.{decimal, space}
+use Rattle.text.proofs.Text.{ten, Written, then}
+use Rattle.text.specs.Text.{decimal, space}
 use native.Mathlib.Omega.{arith}
 use Prim.Native.Nat.{_+_}
 use mathlib.Core.Path.{refl}
 use borrow.Author.Needs.{needs}
-use Rattle.listing.proofs.put_spaced.Statement.{statement}
-use Rattle.listing.proofs.put_spaced.Tie as tie
+use Rattle.text.proofs.put_spaced.Statement.{statement}
+use Rattle.text.proofs.put_spaced.Tie as tie
 
 put8-requires : tie.Need-put8-requires
 put8-requires c κs = search needs

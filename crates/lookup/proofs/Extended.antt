@@ -3,7 +3,7 @@ use mathlib.Core.Path.{_≡_, refl, sym, ap, _∙_}
 use mathlib.Core.Bool.{Bool, true, false}
 use mathlib.Core.Option.{Option, none, some}
 use mathlib.Core.List.{List, [], _∷_, _++_}
-use Prim.Native.Nat.{ℕ, zero, suc, _+_, _-_, _≤_, _<_}
+use Prim.Native.Nat.{ℕ, _+_, _-_, _≤_, _<_}
 use native.Mathlib.Omega.{arith}
 use lib.Dec.{leb}
 use lib.ListN.{length}
@@ -14,11 +14,12 @@ use Rattle.entry.specs.Entry.{extended}
 use Rattle.mbr.specs.Mbr.{primaries}
 use Rattle.table.specs.declared.MBR.{MBR}
 use Rattle.table.specs.Table.{logicals, parts, most}
-use Rattle.lookup.specs.declared.Numbered.{Numbered}
+use Rattle.hits.specs.declared.Numbered.{Numbered}
 use Rattle.lookup.specs.Numbers.{nth, entryOf}
-use Rattle.lookup.specs.Find.{firstAt, numberOf, amongLogicals, turned, findSays, First}
+use Rattle.hits.specs.Hits.{firstAt, amongLogicals, First}
+use Rattle.lookup.specs.Find.{numberOf, turned, findSays}
 use Rattle.lookup.proofs.Numbers.{primary-listed}
-use Rattle.lookup.proofs.Search.{within, first-found}
+use Rattle.hits.proofs.Search.{within, first-found}
 
 seam : {A : Type 0} (xs : List A) (y : A) (ys : List A) → nth (xs ++ y ∷ ys) (length xs) ≡ some y
 unfolding nth

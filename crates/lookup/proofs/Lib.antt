@@ -1,4 +1,3 @@
-pub mod Shift
 pub mod Laws
 pub mod Numbers
 pub mod Search

@@ -1,41 +1,18 @@
 -- The partition that holds a sector: primaries in order, then logical partitions if the hit is extended. Assumes nothing.
-use Prim.Native.Nat.{ℕ, suc, _+_, _^_}
-use mathlib.Core.List.{List, [], _∷_, _++_}
-use mathlib.Core.Bool.{Bool, true, false}
+use Prim.Native.Nat.{ℕ}
+use mathlib.Core.List.{[], _∷_}
 use mathlib.Core.Option.{Option, none, some}
-use mathlib.Core.Path.{_≡_}
-use lib.ListN.{length}
-use lib.Dec.{ltb, leb}
 use Rattle.base.specs.Pick.{pick}
 use Rattle.base.specs.Said.{Said, gives, refuses, andThen}
-use Rattle.base.specs.Checks.{_!_, answer, checked}
-use Rattle.entry.specs.declared.MBRPartitionEntry.{MBRPartitionEntry}
-use Rattle.entry.specs.Entry.{used, extended, endOf}
+use Rattle.base.specs.Checks.{checked}
+use Rattle.entry.specs.Entry.{extended}
 use Rattle.mbr.specs.Mbr.{primaries}
 use Rattle.table.specs.declared.MBR.{MBR}
-use Rattle.table.specs.Table.{logicals, parts}
 use Rattle.lookup.specs.Numbers.{countCheck}
-use Rattle.lookup.specs.declared.Holds.{Holds}
-use Rattle.lookup.specs.declared.Holds.the-variants.{No, Yes, Refused as HoldsRefused}
-use Rattle.lookup.specs.declared.Numbered.{Numbered}
-use Rattle.lookup.specs.declared.Hit.{Hit}
-use Rattle.lookup.specs.declared.Hit.the-variants.{Nothing as NoHit, At, Refused as HitRefused}
+use Rattle.hits.specs.declared.Numbered.{Numbered}
 use Rattle.lookup.specs.declared.Spot.{Spot}
 use Rattle.lookup.specs.declared.Spot.the-variants.{Nothing, Number, Refused}
-
--- does an entry hold a sector; its end is formed only if the entry is used and starts at or before the sector, beyond u32 7
-unfoldable pub holdsSays : ℕ → MBRPartitionEntry → Said Bool
-holdsSays s e =
-    pick (used (e .sys))
-    (pick (leb (e .«starting_lba») s) (answer ((7 ! ltb (endOf e) (2 ^ 32)) ∷ []) (ltb s (endOf e))) (gives false)) (gives false)
-
-abbrev pub numbered : ℕ → MBRPartitionEntry → Numbered
-numbered n e = record { number = n; entry = e }
-
--- the first of the entries, numbered from n on, that holds the sector
-unfoldable pub firstAt : ℕ → ℕ → List MBRPartitionEntry → Said (Option Numbered)
-firstAt s n [] = gives none
-firstAt s n (e ∷ es) = andThen (holdsSays s e) (λ b. pick b (gives (some (numbered n e))) (firstAt s (suc n) es))
+use Rattle.hits.specs.Hits.{firstAt, amongLogicals}
 
 abbrev pub numberIn : Option Numbered → Option ℕ
 numberIn none = none
@@ -45,10 +22,6 @@ numberIn (some h) = some (h .number)
 abbrev pub numberOf : Said (Option Numbered) → Said (Option ℕ)
 numberOf found = andThen found (λ o. gives (numberIn o))
 
--- the logical partitions are numbered from 5 on
-unfoldable pub amongLogicals : MBR → ℕ → Said (Option Numbered)
-amongLogicals t s = firstAt s 5 (parts (logicals t))
-
 -- an extended entry is never answered: a hit of it turns to the logical partitions
 abbrev pub turned : MBR → ℕ → Option Numbered → Said (Option ℕ)
 turned t s none = gives none
@@ -57,38 +30,7 @@ turned t s (some h) = pick (extended (h .entry .sys)) (numberOf (amongLogicals t
 unfoldable pub findSays : MBR → ℕ → Said (Option ℕ)
 findSays t s = checked (countCheck t ∷ []) refuses (andThen (firstAt s 1 (primaries (t .header))) (turned t s))
 
--- what the answers say
-abbrev pub holdsSaid : Holds → Said Bool
-holdsSaid No = gives false
-holdsSaid Yes = gives true
-holdsSaid (HoldsRefused k) = refuses k
-
-abbrev pub hitSaid : Hit → Said (Option Numbered)
-hitSaid NoHit = gives none
-hitSaid (At h) = gives (some h)
-hitSaid (HitRefused k) = refuses k
-
 abbrev pub spotSaid : Spot → Said (Option ℕ)
 spotSaid Nothing = gives none
 spotSaid (Number n) = gives (some n)
 spotSaid (Refused k) = refuses k
-
--- a search that goes on: a hit or a refusal stays
-abbrev pub onward : ℕ → Said (Option Numbered) → ℕ → List MBRPartitionEntry → Said (Option Numbered)
-onward s (gives none) n es = firstAt s n es
-onward s (gives (some h)) n es = gives (some h)
-onward s (refuses k) n es = refuses k
-
--- none of the entries holds the sector, and none of their ends is beyond u32
-abbrev pub Outside : ℕ → List MBRPartitionEntry → Type 0
-Outside s [] = Unit {0}
-Outside s (e ∷ es) = (holdsSays s e ≡ gives false) × Outside s es
-
--- h is the first of the entries, numbered from n on, that holds the sector
-pub record First (s n : ℕ) (es : List MBRPartitionEntry) (h : Numbered) : Type 0 where
-  pub before : List MBRPartitionEntry
-  pub behind : List MBRPartitionEntry
-  pub parts : es ≡ before ++ h .entry ∷ behind
-  pub number : h .number ≡ n + length before
-  pub outside : Outside s before
-  pub holds : holdsSays s (h .entry) ≡ gives true

@@ -2,21 +2,20 @@
 use base::Answer;
 use entry::MBRPartitionEntry;
 use extract::Header;
+use hits::Hit;
 use mbr::Found;
 use mbr::MBRHeader;
 use table::LogicalPartition;
 use table::MBR;
 ghost use mathlib.Core.Path.{_≡_};
-ghost use Prim.Native.Nat.{_+_, _≤_, _<_};
-ghost use mathlib.Core.List.{[], _∷_};
+ghost use Prim.Native.Nat.{_+_, _<_};
 ghost use mathlib.Core.Option.{none, some};
-ghost use Rattle.base.specs.Said.{gives, refusal, failure, valueOr};
+ghost use Rattle.base.specs.Said.{refusal, failure, valueOr};
 ghost use Rattle.base.specs.Checks.{first-fail};
-ghost use Rattle.mbr.specs.Mbr.{primaries};
 ghost use Rattle.table.specs.Table.{emptySlot};
 ghost use Rattle.lookup.specs.Numbers.{kindOf, getSays, lenSays, gotSaid, countSaid};
-ghost use Rattle.lookup.specs.Find.{holdsSays, firstAt, onward, amongLogicals, findSays, holdsSaid, hitSaid, spotSaid};
-ghost use Rattle.lookup.specs.Remove.{without, removeChecks, removedTable, removedPartition, emptyAt, emptied, withoutPrimary, removeAtSays};
+ghost use Rattle.lookup.specs.Find.{findSays, spotSaid};
+ghost use Rattle.lookup.specs.Remove.{removeChecks, removedTable, removedPartition, removeAtSays};
 ghost use Rattle.lookup.specs.Disk.{newTable, newSays, noNew, updateSays};
 
 // What a partition number names; a logical partition is counted from 0 here.
@@ -36,25 +35,6 @@ pub enum Got {
 // A number of partitions, or a refusal's number.
 pub enum Count {
     Is(usize),
-    Refused(u8),
-}
-
-// Does an entry hold a sector?
-pub enum Holds {
-    No,
-    Yes,
-    Refused(u8),
-}
-
-pub struct Numbered {
-    pub number: usize,
-    pub entry: MBRPartitionEntry,
-}
-
-// What a search has found so far.
-pub enum Hit {
-    Nothing,
-    At(Numbered),
     Refused(u8),
 }
 
@@ -128,73 +108,6 @@ pub fn len(t: MBR) -> Count
     Count::Is(4 + n)
 }
 
-// Does an entry hold a sector? The end is formed only if the entry is used and starts at or before it: 7.
-fn is_within(sector: u32, e: MBRPartitionEntry) -> Holds
-    ensures { λ r. ⌜ holdsSaid r ≡ holdsSays sector e ⌝ }
-{
-    if e.sys == 0 {
-        return Holds::No;
-    }
-    if sector < e.starting_lba {
-        return Holds::No;
-    }
-    let end = e.starting_lba as u64 + e.sectors as u64;
-    if 4294967296 <= end {
-        return Holds::Refused(7);
-    }
-    if (sector as u64) < end {
-        return Holds::Yes;
-    }
-    Holds::No
-}
-
-// A search goes on to one more entry; a hit or a refusal stays.
-fn next(sector: u32, found: Hit, number: usize, e: MBRPartitionEntry) -> Hit
-    ensures { λ r. ⌜ hitSaid r ≡ onward sector (hitSaid found) number (e ∷ []) ⌝ }
-{
-    match found {
-        Hit::At(h) => Hit::At(h),
-        Hit::Refused(k) => Hit::Refused(k),
-        Hit::Nothing => match is_within(sector, e) {
-            Holds::No => Hit::Nothing,
-            Holds::Refused(k) => Hit::Refused(k),
-            Holds::Yes => Hit::At(Numbered {
-                number: number,
-                entry: e,
-            }),
-        },
-    }
-}
-
-// The first primary that holds a sector.
-fn among_primaries(h: MBRHeader, sector: u32) -> Hit
-    ensures { λ r. ⌜ hitSaid r ≡ firstAt sector 1 (primaries h) ⌝ }
-{
-    let one = h.partition_1;
-    let two = h.partition_2;
-    let three = h.partition_3;
-    let four = h.partition_4;
-    let first = next(sector, Hit::Nothing, 1, one);
-    let second = next(sector, first, 2, two);
-    let third = next(sector, second, 3, three);
-    next(sector, third, 4, four)
-}
-
-// The first logical partition that holds a sector.
-fn among_logicals(t: MBR, sector: u32) -> Hit
-    requires { ⌜ t .count ≤ 24 ⌝ }
-    ensures { λ r. ⌜ hitSaid r ≡ amongLogicals t sector ⌝ }
-{
-    let n = t.count;
-    let mut found = Hit::Nothing;
-    for i in 0..n {
-        let l = t.logical_partitions[i];
-        let e = l.partition;
-        found = next(sector, found, 5 + i, e);
-    }
-    found
-}
-
 // The number of the primary or logical partition that holds a sector; never the extended one: 6, 7.
 pub fn find_at_sector(t: MBR, sector: u32) -> Spot
     ensures { λ r. ⌜ spotSaid r ≡ findSays t sector ⌝ }
@@ -203,7 +116,7 @@ pub fn find_at_sector(t: MBR, sector: u32) -> Spot
         return Spot::Refused(6);
     }
     let h = t.header;
-    match among_primaries(h, sector) {
+    match hits::among_primaries(h, sector) {
         Hit::Nothing => Spot::Nothing,
         Hit::Refused(k) => Spot::Refused(k),
         Hit::At(p) => {
@@ -211,28 +124,13 @@ pub fn find_at_sector(t: MBR, sector: u32) -> Spot
             if !e.is_extended() {
                 return Spot::Number(p.number);
             }
-            match among_logicals(t, sector) {
+            match hits::among_logicals(t, sector) {
                 Hit::Nothing => Spot::Nothing,
                 Hit::Refused(k) => Spot::Refused(k),
                 Hit::At(l) => Spot::Number(l.number),
             }
         }
     }
-}
-
-// The table without logical partition k, counted from 0.
-fn shifted(t: MBR, k: usize) -> MBR
-    requires { ⌜ (k < t .count) × (t .count ≤ 24) ⌝ }
-    ensures { λ r. ⌜ r ≡ without t k ⌝ }
-{
-    let mut u = t;
-    let n = t.count - 1 - k;
-    for j in 0..n {
-        let l = t.logical_partitions[k + 1 + j];
-        u.logical_partitions[k + j] = l;
-    }
-    u.count = t.count - 1;
-    u
 }
 
 fn keep(t: MBR, k: u8) -> Removal
@@ -264,52 +162,12 @@ pub fn remove(t: MBR, number: usize) -> Removal
         return keep(t, 17);
     }
     let l = t.logical_partitions[k];
-    let u = shifted(t, k);
+    let u = less::shifted(t, k);
     Removal {
         answer: Answer::Done,
         removed: l,
         table: u,
     }
-}
-
-fn empty_at(n: usize, i: usize, e: MBRPartitionEntry) -> MBRPartitionEntry
-    ensures { λ r. ⌜ r ≡ emptyAt n i e ⌝ }
-{
-    if n == i {
-        return MBRPartitionEntry::empty();
-    }
-    e
-}
-
-// The header whose entry number n is empty.
-fn emptied_header(h: MBRHeader, n: usize) -> MBRHeader
-    ensures { λ r. ⌜ r ≡ emptied h n ⌝ }
-{
-    let one = h.partition_1;
-    let two = h.partition_2;
-    let three = h.partition_3;
-    let four = h.partition_4;
-    let first = empty_at(n, 1, one);
-    let second = empty_at(n, 2, two);
-    let third = empty_at(n, 3, three);
-    let fourth = empty_at(n, 4, four);
-    let mut u = h;
-    u.partition_1 = first;
-    u.partition_2 = second;
-    u.partition_3 = third;
-    u.partition_4 = fourth;
-    u
-}
-
-// The table whose primary number n is empty; the logical partitions stay.
-fn without_primary(t: MBR, n: usize) -> MBR
-    ensures { λ r. ⌜ r ≡ withoutPrimary t n ⌝ }
-{
-    let h = t.header;
-    let less = emptied_header(h, n);
-    let mut u = t;
-    u.header = less;
-    u
 }
 
 // Removes the partition that holds a sector: 6, 7, 15.
@@ -330,12 +188,12 @@ pub fn remove_at_sector(t: MBR, sector: u32) -> TableAnswer
             if n < 5 {
                 return TableAnswer {
                     answer: Answer::Done,
-                    table: without_primary(t, n),
+                    table: less::without_primary(t, n),
                 };
             }
             TableAnswer {
                 answer: Answer::Done,
-                table: shifted(t, n - 5),
+                table: less::shifted(t, n - 5),
             }
         }
     }

@@ -1,4 +1,5 @@
-use Rattle.lookup.specs.Find.{findSays, hitSaid}
+use Rattle.lookup.specs.Find.{findSays}
+use Rattle.hits.specs.Hits.{hitSaid}
 use borrow.Author.Tests.{lt-leb, le-leb, not-true, not-false}
 use mathlib.Core.Path.{sym, ap, _∙_}
 use borrow.Author.Needs.{needs}

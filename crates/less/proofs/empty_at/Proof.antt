@@ -1,7 +1,7 @@
 use Rattle.base.proofs.Tests.{tests}
 use borrow.Author.Needs.{needs}
-use Rattle.lookup.proofs.empty_at.Statement.{statement}
-use Rattle.lookup.proofs.empty_at.Tie as tie
+use Rattle.less.proofs.empty_at.Statement.{statement}
+use Rattle.less.proofs.empty_at.Tie as tie
 
 empty-requires : tie.Need-empty-requires
 empty-requires c κs = search needs

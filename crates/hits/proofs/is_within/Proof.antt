@@ -1,8 +1,8 @@
-use Rattle.lookup.specs.Find.{holdsSays}
+use Rattle.hits.specs.Hits.{holdsSays}
 use Rattle.base.proofs.Tests.{tests}
 use borrow.Author.Needs.{needs}
-use Rattle.lookup.proofs.is_within.Statement.{statement}
-use Rattle.lookup.proofs.is_within.Tie as tie
+use Rattle.hits.proofs.is_within.Statement.{statement}
+use Rattle.hits.proofs.is_within.Tie as tie
 
 returns : tie.Need-returns
 unfolding holdsSays

@@ -1,4 +1,4 @@
-use Rattle.lookup.specs.Remove.{without}
+use Rattle.less.specs.Less.{without}
 use Rattle.table.specs.Table.{noLogical, withLogicals}
 use Rattle.table.specs.declared.MBR.{MBR}
 use Rattle.table.specs.declared.LogicalPartition.{LogicalPartition}
@@ -9,11 +9,11 @@ use Prim.Native.Nat.{ℕ, _≤_, _-_, _+_}
 use native.Mathlib.Omega.{arith}
 use lib.Seq.{paste}
 use lib.ListN.{length, length-map, length-set, drop, set, getD}
-use Rattle.lookup.proofs.Shift.{none, turn, last}
-use Rattle.lookup.proofs.shifted.Statement.{statement}
-use Rattle.lookup.proofs.shifted.Tie as tie
-use Rattle.lookup.proofs.shifted.Reads as reads
-use Rattle.lookup.proofs.shifted.Lts as lts
+use Rattle.less.proofs.Shift.{none, turn, last}
+use Rattle.less.proofs.shifted.Statement.{statement}
+use Rattle.less.proofs.shifted.Tie as tie
+use Rattle.less.proofs.shifted.Reads as reads
+use Rattle.less.proofs.shifted.Lts as lts
 
 abbrev Inv-loop : tie.InvT-loop
 Inv-loop k t u₀ n j₀ u j =

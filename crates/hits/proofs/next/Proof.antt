@@ -1,8 +1,8 @@
 use mathlib.Core.Path.{sym, ap, _∙_}
-use Rattle.lookup.specs.Find.{firstAt, holdsSaid}
+use Rattle.hits.specs.Hits.{firstAt, holdsSaid}
 use borrow.Author.Needs.{needs}
-use Rattle.lookup.proofs.next.Statement.{statement}
-use Rattle.lookup.proofs.next.Tie as tie
+use Rattle.hits.proofs.next.Statement.{statement}
+use Rattle.hits.proofs.next.Tie as tie
 
 enum-known-found : tie.Need-enum-known-found
 enum-known-found c = search needs

@@ -1,7 +1,7 @@
-use Rattle.lookup.proofs.Search.{four}
+use Rattle.hits.proofs.Search.{four}
 use borrow.Author.Needs.{needs}
-use Rattle.lookup.proofs.among_primaries.Statement.{statement}
-use Rattle.lookup.proofs.among_primaries.Tie as tie
+use Rattle.hits.proofs.among_primaries.Statement.{statement}
+use Rattle.hits.proofs.among_primaries.Tie as tie
 
 next-requires : tie.Need-next-requires
 next-requires c κs = search needs

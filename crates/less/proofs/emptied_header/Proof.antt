@@ -1,6 +1,6 @@
 use borrow.Author.Needs.{needs}
-use Rattle.lookup.proofs.emptied_header.Statement.{statement}
-use Rattle.lookup.proofs.emptied_header.Tie as tie
+use Rattle.less.proofs.emptied_header.Statement.{statement}
+use Rattle.less.proofs.emptied_header.Tie as tie
 
 empty-at-requires : tie.Need-empty-at-requires
 empty-at-requires c κs = search needs

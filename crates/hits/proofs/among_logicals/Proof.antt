@@ -1,13 +1,13 @@
-use Rattle.lookup.specs.Find.{onward, hitSaid, amongLogicals}
+use Rattle.hits.specs.Hits.{onward, hitSaid, amongLogicals}
 use Rattle.table.specs.Table.{logicals, parts}
 use borrow.Author.Needs.{needs}
 use mathlib.Core.Path.{_≡_, refl, sym, _∙_}
 use Prim.Native.Nat.{_≤_, _-_, _+_}
 use native.Mathlib.Omega.{arith}
 use lib.ListN.{length, length-map, drop}
-use Rattle.lookup.proofs.Search.{starts, turns, ends}
-use Rattle.lookup.proofs.among_logicals.Statement.{statement}
-use Rattle.lookup.proofs.among_logicals.Tie as tie
+use Rattle.hits.proofs.Search.{starts, turns, ends}
+use Rattle.hits.proofs.among_logicals.Statement.{statement}
+use Rattle.hits.proofs.among_logicals.Tie as tie
 
 abbrev Inv-loop : tie.InvT-loop
 Inv-loop sector t n found₀ i₀ found i = (i ≤ n) × (amongLogicals t sector ≡ onward sector (hitSaid found) (5 + i) (drop i (parts (logicals t))))

@@ -1,6 +1,6 @@
 use borrow.Author.Needs.{needs}
-use Rattle.lookup.proofs.without_primary.Statement.{statement}
-use Rattle.lookup.proofs.without_primary.Tie as tie
+use Rattle.less.proofs.without_primary.Statement.{statement}
+use Rattle.less.proofs.without_primary.Tie as tie
 
 emptied-header-requires : tie.Need-emptied-header-requires
 emptied-header-requires c κs = search needs

@@ -1,0 +1,86 @@
+// The header, the slots and the whole table, read from a block that passes its checks.
+use mbr::MBRHeader;
+use table::LOGICALS;
+use table::LogicalPartition;
+use table::MBR;
+ghost use mathlib.Core.Path.{_≡_};
+ghost use Prim.Native.Nat.{_+_};
+ghost use lib.ListN.{length};
+ghost use Rattle.block.specs.Block.{headerIn, slotsIn, tagged, tableIn};
+
+// Every slot, the unused ones too.
+fn get_slots(b: &[u8]) -> [LogicalPartition; LOGICALS]
+    requires { ⌜ length (now b) ≡ 12108 ⌝ }
+    ensures { λ r. ⌜ r ≡ slotsIn (now (b .entry)) 24 ⌝ }
+{
+    let none = LogicalPartition::empty();
+    let mut ls = [none; LOGICALS];
+    for i in 0..LOGICALS {
+        let l = slotread::get_slot(slotread::part_of(b, 540 + 482 * i, 482));
+        ls[i] = l;
+    }
+    ls
+}
+
+// Are all tags 0 or 1?
+pub fn all_tagged(b: &[u8]) -> bool
+    requires { ⌜ length (now b) ≡ 12108 ⌝ }
+    ensures { λ r. ⌜ r ≡ tagged (now (b .entry)) 0 24 ⌝ }
+{
+    for i in 0..LOGICALS {
+        if !slotread::slot_tagged(slotread::part_of(b, 540 + 482 * i, 482)) {
+            return false;
+        }
+    }
+    true
+}
+
+// The header in its 520 bytes.
+fn get_header(s: &[u8]) -> MBRHeader
+    requires { ⌜ length (now s) ≡ 520 ⌝ }
+    ensures { λ r. ⌜ r ≡ headerIn (now (s .entry)) ⌝ }
+{
+    let code = mbrread::code_of(s);
+    let one = slotread::get_entry(s, 446);
+    let two = slotread::get_entry(s, 464);
+    let three = slotread::get_entry(s, 482);
+    let four = slotread::get_entry(s, 500);
+    let disk = [s[440], s[441], s[442], s[443]];
+    let mark = [s[444], s[445]];
+    let sign = [s[518], s[519]];
+    MBRHeader {
+        bootstrap_code: code,
+        disk_signature: disk,
+        copy_protected: mark,
+        partition_1: one,
+        partition_2: two,
+        partition_3: three,
+        partition_4: four,
+        boot_signature: sign,
+    }
+}
+
+// The table in a block.
+pub fn get_table(b: &[u8]) -> MBR
+    requires { ⌜ length (now b) ≡ 12108 ⌝ }
+    ensures { λ r. ⌜ r ≡ tableIn (now (b .entry)) ⌝ }
+{
+    let header = get_header(slotread::part_of(b, 20, 520));
+    let ls = get_slots(b);
+    let sector_size = base::get32(b, 0);
+    let disk_size = base::get32(b, 4);
+    let align = base::get32(b, 8);
+    let count = base::get32(b, 12);
+    let cylinders = base::get16(b, 16);
+    MBR {
+        sector_size: sector_size,
+        header: header,
+        logical_partitions: ls,
+        count: count as usize,
+        align: align,
+        cylinders: cylinders,
+        heads: b[18],
+        sectors: b[19],
+        disk_size: disk_size,
+    }
+}

@@ -81,7 +81,7 @@ fn good_rows(t: MBR, from: u32, hi: u64) -> bool
             return false;
         }
         let e = l.partition;
-        end = rules::end_of(e);
+        end = turns::end_of(e);
     }
     end <= hi
 }
@@ -95,7 +95,7 @@ fn good_chain(t: MBR) -> bool
     let found = header.get_extended_partition();
     match found {
         Found::Nothing => t.count == 0,
-        Found::Entry(e) => good_rows(t, e.starting_lba, rules::end_of(e)),
+        Found::Entry(e) => good_rows(t, e.starting_lba, turns::end_of(e)),
     }
 }
 

@@ -13,7 +13,7 @@ use Rattle.soundtest.proofs.good_rows.Statement.{statement}
 use Rattle.soundtest.proofs.good_rows.Tie as tie
 use Rattle.soundtest.proofs.good_rows.Reads as reads
 use Rattle.soundtest.proofs.good_rows.Lts as lts
-use Rattle.rules.proofs.end_of.Reads as end-of-reads
+use Rattle.turns.proofs.end_of.Reads as end-of-reads
 use Rattle.rules.proofs.stands.Reads as stands-reads
 
 abbrev Inv-loop : tie.InvT-loop

@@ -1,8 +1,8 @@
 use mathlib.Core.Path.{sym, _∙_}
 use borrow.Author.Tests.{not-false, not-true}
 use borrow.Author.Needs.{needs}
-use Rattle.rules.proofs.within_entry.Statement.{statement}
-use Rattle.rules.proofs.within_entry.Tie as tie
+use Rattle.alone.proofs.within_entry.Statement.{statement}
+use Rattle.alone.proofs.within_entry.Tie as tie
 
 within-requires : tie.Need-within-requires
 within-requires c κs = search needs

@@ -1,7 +1,7 @@
 use borrow.Author.Tests.{le-leb, lt-leb}
 use Rattle.sound.specs.Walk.{placeb}
-use Rattle.rules.proofs.behind_ebr.Statement.{statement}
-use Rattle.rules.proofs.behind_ebr.Tie as tie
+use Rattle.alone.proofs.behind_ebr.Statement.{statement}
+use Rattle.alone.proofs.behind_ebr.Tie as tie
 
 returns : tie.Need-returns
 unfolding placeb

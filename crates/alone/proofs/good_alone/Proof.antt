@@ -2,8 +2,8 @@ use mathlib.Core.Path.{sym, _∙_}
 use borrow.Author.Tests.{eq-eqb, ne-eqb, not-false, not-true}
 use Rattle.sound.specs.Walk.{ownb}
 use borrow.Author.Needs.{needs}
-use Rattle.rules.proofs.good_alone.Statement.{statement}
-use Rattle.rules.proofs.good_alone.Tie as tie
+use Rattle.alone.proofs.good_alone.Statement.{statement}
+use Rattle.alone.proofs.good_alone.Tie as tie
 
 check-requires : tie.Need-check-requires
 check-requires c κs = search needs

@@ -1,8 +1,8 @@
 use borrow.Author.Tests.{lt-leb, le-leb}
 use Rattle.sound.specs.Walk.{turnb}
 use borrow.Author.Needs.{needs}
-use Rattle.rules.proofs.good_turn.Statement.{statement}
-use Rattle.rules.proofs.good_turn.Tie as tie
+use Rattle.turns.proofs.good_turn.Statement.{statement}
+use Rattle.turns.proofs.good_turn.Tie as tie
 
 cast-result : tie.Need-cast-result
 cast-result c = search needs

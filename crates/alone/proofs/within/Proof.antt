@@ -1,6 +1,6 @@
 use borrow.Author.Tests.{le-leb, lt-leb}
-use Rattle.rules.proofs.within.Statement.{statement}
-use Rattle.rules.proofs.within.Tie as tie
+use Rattle.alone.proofs.within.Statement.{statement}
+use Rattle.alone.proofs.within.Tie as tie
 
 returns : tie.Need-returns
 returns c =

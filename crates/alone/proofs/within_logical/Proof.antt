@@ -1,8 +1,8 @@
 use mathlib.Core.Path.{sym, _∙_}
 use borrow.Author.Tests.{not-false, not-true}
 use borrow.Author.Needs.{needs}
-use Rattle.rules.proofs.within_logical.Statement.{statement}
-use Rattle.rules.proofs.within_logical.Tie as tie
+use Rattle.alone.proofs.within_logical.Statement.{statement}
+use Rattle.alone.proofs.within_logical.Tie as tie
 
 within-entry-requires : tie.Need-within-entry-requires
 within-entry-requires c κs = search needs

@@ -1,6 +1,6 @@
 use borrow.Author.Needs.{needs}
-use Rattle.rules.proofs.within_if_there.Statement.{statement}
-use Rattle.rules.proofs.within_if_there.Tie as tie
+use Rattle.alone.proofs.within_if_there.Statement.{statement}
+use Rattle.alone.proofs.within_if_there.Tie as tie
 
 enum-told : tie.Need-enum-told
 enum-told c = search needs

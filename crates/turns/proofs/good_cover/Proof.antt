@@ -2,8 +2,8 @@ use borrow.Author.Tests.{le-leb, lt-leb}
 use Rattle.sound.specs.Sound.{end}
 use Rattle.sound.specs.Walk.{coverb}
 use borrow.Author.Needs.{needs}
-use Rattle.rules.proofs.good_cover.Statement.{statement}
-use Rattle.rules.proofs.good_cover.Tie as tie
+use Rattle.turns.proofs.good_cover.Statement.{statement}
+use Rattle.turns.proofs.good_cover.Tie as tie
 
 returns : tie.Need-returns
 unfolding coverb end

@@ -3,8 +3,8 @@ use mathlib.Core.Path.{sym, ap, _∙_}
 use Rattle.sound.specs.Sound.{ofLinkb}
 use Rattle.sound.specs.Walk.{coverb, linkb}
 use borrow.Author.Needs.{needs}
-use Rattle.rules.proofs.good_link.Statement.{statement}
-use Rattle.rules.proofs.good_link.Tie as tie
+use Rattle.turns.proofs.good_link.Statement.{statement}
+use Rattle.turns.proofs.good_link.Tie as tie
 
 enum-told : tie.Need-enum-told
 enum-told c = search needs

@@ -1,22 +1,19 @@
 -- Where the search leads, the record is laid. Assumes nothing.
 use mathlib.Core.Path.{_≡_, refl, sym, ap, subst, _∙_}
-use mathlib.Core.List.{List, [], _∷_, _++_, append-assoc}
-use Prim.Native.Nat.{ℕ, zero, suc, _+_, _*_, _-_, _≤_, _<_}
+use mathlib.Core.List.{List, _∷_, _++_}
+use Prim.Native.Nat.{ℕ, zero, suc, _+_, _-_, _≤_, _<_}
 use native.Mathlib.Omega.{arith}
-use native.Mathlib.Nat.{zero-add, sub-zero}
-use lib.ListN.{length, take, drop, length-append}
 use Rattle.base.specs.Bytes.{Record}
 use Rattle.extract.specs.Disk.{Store}
-use Rattle.extract.specs.Extract.{sectorSize, diskSectors, count, lbaAt, recordsFrom, records, Good}
+use Rattle.extract.specs.Extract.{count, lbaAt, recordsFrom, records, Good}
 use Rattle.extract.specs.Answers.{headerOf}
 use Rattle.extract.specs.Spot.{SpotOf}
 use Rattle.extract.specs.declared.Extract.{Extract}
 use Rattle.extract.specs.declared.Spot.the-variants.{Found, Absent}
 use Rattle.extract.proofs.Good.{lba-less, good-few, good-long}
-use Rattle.layover.specs.Layover.{lbaBytes, recordBytes, headerBytes, extractBytes, laidOver, newRecords, newExtract}
-use Rattle.layover.specs.Cut.{cut, Room, Laying}
+use Rattle.layover.specs.Layover.{laidOver, newRecords}
+use Rattle.layover.specs.Cut.{cut, Laying}
 use Rattle.layover.proofs.Sorted.{over-lower, over-same, over-higher}
-use Rattle.layover.proofs.Parts.{lbas-part, records-part, lbaBytes-append, recordBytes-append, length-records}
 
 -- the first m of the records are lower: they stay in front
 skip : (x : List ℕ) (s : Store) (m i k : ℕ) → ((j : ℕ) → i ≤ j → j < i + m → lbaAt x j < s .lba)

@@ -8,7 +8,8 @@ use Rattle.base.specs.Said.{gives, refuses}
 use Rattle.extract.specs.Disk.{Store}
 use Rattle.extract.specs.Extract.{word, recordAt, lbasFrom, recordsFrom, ascending, allBelow, extractChecks, recordIn, lookChecks, recordOf}
 use Rattle.extract.specs.Answers.{checkSays, lookSays}
-use Rattle.layover.specs.Layover.{lbaBytes, recordBytes, headerBytes, extractBytes, laidOver}
+use Rattle.layover.specs.Layover.{lbaBytes, recordBytes, extractBytes, laidOver}
+use Rattle.extractwrite.specs.Header.{headerBytes}
 
 -- no records, D 0
 unfoldable none-at-all : List ℕ

@@ -1,10 +1,10 @@
 -- What a lay-over makes: a good extract, of the disk with that sector stored. Assumes nothing.
-use mathlib.Core.Path.{_≡_, refl, sym, ap, _∙_}
-use mathlib.Core.List.{List, [], _∷_, _++_}
-use mathlib.Core.Bool.{Bool, true, false}
+use mathlib.Core.Path.{_≡_, sym, ap, _∙_}
+use mathlib.Core.List.{List, _++_}
+use mathlib.Core.Bool.{true}
 use Prim.Native.Nat.{ℕ, _+_, _*_, _≤_, _<_}
 use native.Mathlib.Omega.{arith}
-use lib.Dec.{eqb, leb}
+use lib.Dec.{eqb}
 use lib.ListN.{length, take, drop}
 use lib.Seq.{take-add, take-all}
 use borrow.Author.Tests.{le-leb, eq-eqb}
@@ -12,18 +12,19 @@ use Rattle.base.specs.Pick.{pick, among}
 use Rattle.base.specs.Bytes.{Record, bytesOf, little}
 use Rattle.base.specs.Checks.{AllHold}
 use Rattle.base.proofs.Checks.{hold-both}
-use Rattle.extract.specs.Disk.{Disk, Store, stored, Same}
-use Rattle.extract.specs.Extract.{word, sectorSize, diskSectors, count, listOffset, recordOffset, total, lbas, records, recordIn, blank, sizeOk, ascending, allBelow, extractChecks, Good, diskOf}
+use Rattle.extract.specs.Disk.{Store, stored}
+use Rattle.extract.specs.Extract.{sectorSize, diskSectors, count, listOffset, recordOffset, total, lbas, records, recordIn, blank, sizeOk, ascending, allBelow, extractChecks, Good, diskOf}
 use Rattle.extract.proofs.Good.{ofHeader, ofLbas, good-long, good-offsets, good-size, good-ascending, good-below, word-below}
 use Rattle.extract.proofs.Disk.{same-equal}
-use Rattle.layover.specs.Layover.{lbaBytes, recordBytes, headerBytes, extractBytes, laidOver, newRecords, newExtract}
+use Rattle.layover.specs.Layover.{lbaBytes, recordBytes, extractBytes, laidOver, newRecords, newExtract}
+use Rattle.extractwrite.specs.Header.{headerBytes}
 use Rattle.layover.specs.declared.Laid.{Laid}
 use Rattle.layover.specs.declared.Laid.the-variants as laid
 use Rattle.layover.specs.Answers.{laidSaid}
 use Rattle.extract.proofs.Answers.{refusal-equal}
 use Rattle.layover.proofs.Sorted.{lbasOf, Fit, over-sector, over-union, over-again, over-ascending, over-below}
 use Rattle.layover.proofs.Parts.{word-bytes, lbas-part, records-part, length-records, length-extract, bytes-extract, header-size, header-disk, header-count, header-list, header-records, header-total, records-back, lbas-records}
-use Rattle.layover.proofs.Rules.{fit-records, fit-new}
+use Rattle.layover.proofs.Rules.{fit-new}
 
 -- records that an extract may hold
 pub record Holds (z d : ℕ) (ss : List Store) : Type 0 where

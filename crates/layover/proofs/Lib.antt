@@ -1,7 +1,6 @@
 pub mod Sorted
 pub mod Parts
 pub mod Cut
-pub mod Written
 pub mod Rules
 pub mod Laws
 pub mod Examples

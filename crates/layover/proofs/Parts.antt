@@ -1,18 +1,18 @@
 -- An extract written and read back, and the parts of an extract. Assumes nothing.
-use mathlib.Core.Path.{_≡_, refl, sym, ap, subst, _∙_}
+use mathlib.Core.Path.{_≡_, refl, sym, ap, _∙_}
 use mathlib.Core.List.{List, [], _∷_, _++_, append-assoc, append-nil}
-use mathlib.Core.Bool.{Bool, true, false}
-use Prim.Native.Nat.{ℕ, zero, suc, _+_, _*_, _-_, _≤_, _<_}
+use Prim.Native.Nat.{ℕ, zero, suc, _+_, _*_, _≤_, _<_}
 use native.Mathlib.Omega.{arith}
-use native.Mathlib.Nat.{add-zero, zero-add}
 use lib.ListN.{length, take, drop, length-append, length-drop}
 use lib.Seq.{take-at, drop-at, take-add, drop-drop, length-take-le}
-use Rattle.base.specs.Bytes.{Bytes, Record, number, bytesOf, bytesAt, little}
-use Rattle.base.proofs.Bytes.{bytes-append, bytes-take, bytes-drop, bytes-bytesOf, length-bytesOf, number-bytesOf, bytesOf-number, bytesAt-part}
+use Rattle.base.specs.Bytes.{Bytes, number, bytesOf, little}
+use Rattle.base.proofs.Bytes.{bytes-append, bytes-take, bytes-drop, bytes-bytesOf, number-bytesOf, bytesOf-number, bytesAt-part}
 use Rattle.extract.specs.Disk.{Store}
 use Rattle.extract.specs.Extract.{word, count, lbaAt, recordAt, recordsFrom, lbasFrom}
-use Rattle.layover.specs.Layover.{lbaBytes, recordBytes, headerBytes, extractBytes}
+use Rattle.layover.specs.Layover.{lbaBytes, recordBytes, extractBytes}
+use Rattle.extractwrite.specs.Header.{headerBytes}
 use Rattle.layover.proofs.Sorted.{lbasOf, Fit}
+pub use Rattle.extractwrite.proofs.Header.{length-header}
 
 -- a word is the number in its four bytes
 pub word-part : (x : List ℕ) (at : ℕ) → at + 4 ≤ length x → word x at ≡ number little (take 4 (drop at x))
@@ -37,10 +37,6 @@ pub length-recordBytes : (ss : List Store) → Fit ss → length (recordBytes ss
 unfolding recordBytes
 length-recordBytes [] f = refl
 length-recordBytes (s ∷ ss) f = omega (arith, length-append (s .bytes) (recordBytes ss), length-recordBytes ss (f .1), f .0 .1 .long)
-
-pub length-header : (z d n : ℕ) → length (headerBytes z d n) ≡ 24
-unfolding headerBytes
-length-header z d n = refl
 
 pub length-extract : (z d : ℕ) (ss : List Store) → Fit ss → length (extractBytes z d ss) ≡ 24 + length ss * 516
 unfolding extractBytes

@@ -1,27 +1,28 @@
 -- What the refusals of a lay-over lead to, and the new extract from its parts. Assumes nothing.
 use mathlib.Core.Path.{_≡_, refl, sym, ap, subst, _∙_}
-use mathlib.Core.List.{List, [], _∷_, _++_, append-assoc}
-use mathlib.Core.Bool.{Bool, true, false}
+use mathlib.Core.List.{List, _∷_, _++_, append-assoc}
 use mathlib.Core.Option.{some}
 use Prim.Native.Nat.{ℕ, zero, suc, _+_, _*_, _-_, _≤_, _<_}
 use native.Mathlib.Omega.{arith}
-use lib.Dec.{eqb, leb, ltb}
+use lib.Dec.{eqb, ltb}
 use lib.ListN.{length, take, drop, length-append}
 use borrow.Author.Tests.{lt-ltb, le-ltb, le-leb, lt-leb, eq-eqb, ne-eqb}
 use Rattle.base.specs.Bytes.{Bytes, Record, bytesOf, little}
 use Rattle.base.specs.Put.{put}
 use Rattle.base.specs.Said.{Said, gives, refuses}
-use Rattle.base.specs.Checks.{Check, _!_, checked, first-fail}
+use Rattle.base.specs.Checks.{_!_, checked, first-fail}
 use Rattle.base.proofs.Checks.{append-fails, append-holds}
 use Rattle.extract.specs.Disk.{Store}
-use Rattle.extract.specs.Extract.{sectorSize, diskSectors, count, lbaAt, recordsFrom, records, extractChecks, Good}
+use Rattle.extract.specs.Extract.{sectorSize, diskSectors, count, recordsFrom, records, extractChecks, Good}
 use Rattle.extract.specs.Answers.{headerOf}
 use Rattle.extract.specs.declared.Extract.{Extract}
 use Rattle.extract.proofs.Good.{word-below}
 use Rattle.extract.proofs.Disk.{record-at}
-use Rattle.layover.specs.Layover.{lbaBytes, recordBytes, headerBytes, extractBytes, laidOver, newRecords, newExtract, roomChecks, layChecks}
+use Rattle.layover.specs.Layover.{lbaBytes, recordBytes, extractBytes, newRecords, newExtract, roomChecks, layChecks}
+use Rattle.extractwrite.specs.Header.{headerBytes}
 use Rattle.layover.specs.Answers.{roomSays, roomLeaves, laySays, layLeaves}
-use Rattle.layover.specs.Cut.{part, cut, many, lbaParts, recordParts, allParts, Room, Laying}
+use Rattle.extractwrite.specs.Cut.{part, many, lbaParts, recordParts, allParts, Room}
+use Rattle.layover.specs.Cut.{cut, Laying}
 use Rattle.layover.proofs.Sorted.{Fit, over-fit}
 use Rattle.layover.proofs.Parts.{lbas-part, records-part, lbaBytes-append, recordBytes-append, length-records, length-extract}
 

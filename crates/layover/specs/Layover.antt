@@ -1,15 +1,14 @@
 -- An extract of given records, and a record laid over an extract. Assumes nothing.
-use Prim.Native.Nat.{ℕ, _+_, _*_}
+use Prim.Native.Nat.{ℕ}
 use mathlib.Core.List.{List, [], _∷_, _++_}
-use mathlib.Core.Bool.{Bool, true, false}
 use lib.Dec.{eqb, leb, ltb}
 use lib.ListN.{length}
 use Rattle.base.specs.Pick.{pick}
 use Rattle.base.specs.Bytes.{bytesOf, little}
-use Rattle.base.specs.Put.{put}
-use Rattle.base.specs.Checks.{Check, _!_, checked}
+use Rattle.base.specs.Checks.{Check, _!_}
 use Rattle.extract.specs.Disk.{Store}
 use Rattle.extract.specs.Extract.{sectorSize, diskSectors, records, mostRecords, extractChecks}
+unfoldable pub use Rattle.extractwrite.specs.Header.{headerBytes}
 
 -- the LBAs of records, one after the other
 unfoldable pub lbaBytes : List Store → List ℕ
@@ -20,16 +19,6 @@ lbaBytes (s ∷ ss) = bytesOf little 4 (s .lba) ++ lbaBytes ss
 unfoldable pub recordBytes : List Store → List ℕ
 recordBytes [] = []
 recordBytes (s ∷ ss) = s .bytes ++ recordBytes ss
-
--- the header of an extract of n records, for d sectors of a size
-unfoldable pub headerBytes : ℕ → ℕ → ℕ → List ℕ
-headerBytes size d n =
-    bytesOf little 4 size ++
-    bytesOf little 4 d ++
-    bytesOf little 4 n ++
-    bytesOf little 4 24 ++
-    bytesOf little 4 (24 + n * 4) ++
-    bytesOf little 4 (24 + n * 516)
 
 -- an extract: header, LBAs, records
 unfoldable pub extractBytes : ℕ → ℕ → List Store → List ℕ

@@ -1,4 +1,3 @@
-pub mod Laws
 pub mod Told
 pub mod Steps
 pub mod Over

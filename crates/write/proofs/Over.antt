@@ -1,10 +1,10 @@
 -- What writing makes: a good extract, of the disk with these records stored in their order. Assumes nothing.
 use mathlib.Core.Path.{_≡_, refl, sym, ap, _∙_}
-use mathlib.Core.List.{List, [], _∷_, _++_}
-use mathlib.Core.Bool.{Bool, true, false}
+use mathlib.Core.List.{List, [], _∷_}
+use mathlib.Core.Bool.{true}
 use Prim.Native.Nat.{ℕ, _≤_, _<_}
 use native.Mathlib.Omega.{arith}
-use lib.Dec.{eqb, leb}
+use lib.Dec.{eqb}
 use lib.ListN.{length}
 use borrow.Author.Tests.{leb-true}
 use Rattle.base.specs.Pick.{pick}
@@ -13,11 +13,11 @@ use Rattle.base.specs.Said.{gives}
 use Rattle.base.specs.Checks.{AllHold}
 use Rattle.base.proofs.Checks.{none-fails, hold-left, hold-right, answer-gives}
 use Rattle.mbr.specs.Mbr.{headerChecks}
-use Rattle.extract.specs.Disk.{Disk, Store, stored, after, Same}
+use Rattle.extract.specs.Disk.{Disk, Store, stored, after}
 use Rattle.extract.specs.Extract.{sectorSize, diskSectors, count, lbas, records, recordIn, blank, ascending, allBelow, extractChecks, Good, diskOf}
 use Rattle.extract.proofs.Good.{good-size, good-ascending, good-below, word-below}
 use Rattle.extract.proofs.Disk.{same-equal, size-after, width-after}
-use Rattle.layover.specs.Layover.{extractBytes, laidOver}
+use Rattle.layover.specs.Layover.{laidOver}
 use Rattle.layover.proofs.Sorted.{lbasOf, Fit, over-sector, over-ascending, over-below, over-fit}
 use Rattle.layover.proofs.Parts.{header-size, header-disk, lbas-records}
 use Rattle.layover.proofs.Rules.{fit-records}
@@ -26,7 +26,8 @@ use Rattle.plan.specs.Plan.{Each}
 use Rattle.table.specs.declared.MBR.{MBR}
 use Rattle.table.specs.Table.{logicals, extendedIn}
 use Rattle.push.specs.Push.{geometryOf}
-use Rattle.write.specs.Write.{tableStores, laidAll, extractOver, roomChecks, chainChecks, diskChecks, chainOn, diskOn, headerOn, writeChecks}
+use Rattle.write.specs.Write.{tableStores, roomChecks, chainChecks, diskChecks, chainOn, diskOn, headerOn, writeChecks}
+use Rattle.records.specs.Records.{laidAll, extractOver}
 use Rattle.write.specs.Answers.{writeSays}
 
 -- a store that an extract of d sectors may hold

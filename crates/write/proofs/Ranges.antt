@@ -1,11 +1,11 @@
 -- Every record that is written of a table whose numbers fit their types is 512 bytes on the disk. Assumes nothing.
-use mathlib.Core.Path.{_≡_, refl, sym, ap, subst, _∙_}
+use mathlib.Core.Path.{_≡_, refl}
 use mathlib.Core.List.{List, [], _∷_, _++_, map}
 use mathlib.Core.Bool.{Bool, true, false}
 use mathlib.Core.Option.{Option, none, some}
-use Prim.Native.Nat.{ℕ, _*_, _/_, _%_, _≤_, _<_}
+use Prim.Native.Nat.{ℕ, _*_, _<_}
 use native.Mathlib.Omega.{arith}
-use lib.Dec.{ltb, eqb}
+use lib.Dec.{eqb}
 use lib.ListN.{length, replicate}
 use borrow.Author.Tests.{ltb-true, eqb-false, not-true}
 use Rattle.base.specs.Pick.{pick}
@@ -16,13 +16,12 @@ use Rattle.base.specs.Checks.{AllHold}
 use Rattle.base.proofs.Bytes.{bytes-append, bytes-zeros}
 use Rattle.base.proofs.Checks.{hold-left, hold-right}
 use Rattle.entry.specs.declared.MBRPartitionEntry.{MBRPartitionEntry}
-use Rattle.entry.specs.Entry.{entryBytes, noEntry}
-use Rattle.ebr.specs.declared.EBRHeader.{EBRHeader}
+use Rattle.entry.specs.Entry.{entryBytes}
 use Rattle.ebr.specs.Ebr.{ebrBytes, signature, KeptOk}
 use Rattle.mbr.specs.declared.MBRHeader.{MBRHeader}
-use Rattle.mbr.specs.Mbr.{mbrBytes, primaries, extendedOf}
+use Rattle.mbr.specs.Mbr.{mbrBytes}
 use Rattle.mbr.proofs.Laws.{extended-has}
-use Rattle.extract.specs.Disk.{Store, after}
+use Rattle.extract.specs.Disk.{after}
 use Rattle.extract.specs.Extract.{diskSectors, Good, diskOf}
 use Rattle.table.specs.declared.MaybeChs.{MaybeChs}
 use Rattle.table.specs.declared.MaybeChs.the-variants.{Absent as NoChs, Present as SomeChs}
@@ -39,9 +38,10 @@ use Rattle.chain.specs.Facts.{at, bodyOf, linkIn, leads}
 use Rattle.links.specs.Links.{linkEntry, ebrFor, write, chsOrNo}
 use Rattle.settle.specs.Settle.{atStart, firstAt, byGeometry, allGeometry, settled, settleChecks, linked, rowChecks, allRows}
 use Rattle.plan.specs.Plan.{Each}
-use Rattle.write.specs.Write.{headerStore, ebrStores, chainStores, chainChecks, tableStores, extractOver}
+use Rattle.write.specs.Write.{headerStore, chainStores, chainChecks, tableStores}
+use Rattle.records.specs.Records.{ebrStores, extractOver}
 use Rattle.write.specs.Answers.{writeSays}
-use Rattle.write.proofs.Laws.{length-mbr, length-ebr}
+use Rattle.records.proofs.Laws.{length-mbr, length-ebr}
 use Rattle.write.proofs.Over.{Storable, disk-held, chain-held, table-good, table-disk}
 
 -- flag, type and heads of an entry are bytes

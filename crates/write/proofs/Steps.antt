@@ -1,29 +1,27 @@
 -- The steps of writing, as the code takes them. Assumes nothing.
-use mathlib.Core.Path.{_≡_, refl, sym, ap, subst, _∙_}
+use mathlib.Core.Path.{_≡_, sym, ap, subst, _∙_}
 use mathlib.Core.List.{List, [], _∷_, _++_}
 use mathlib.Core.Option.{Option, none, some}
 use Prim.Native.Nat.{ℕ, _+_, _*_, _≤_, _<_}
 use native.Mathlib.Omega.{arith}
-use lib.Dec.{leb, ltb}
-use lib.ListN.{length, length-map, length-append}
+use lib.ListN.{length, length-map}
 use borrow.Author.Tests.{lt-ltb, le-ltb, lt-leb, le-leb}
 use Rattle.base.specs.Put.{put}
-use Rattle.base.specs.Said.{Said, gives, refuses}
+use Rattle.base.specs.Said.{gives, refuses}
 use Rattle.base.specs.Checks.{Check, first-fail}
 use Rattle.entry.specs.declared.MBRPartitionEntry.{MBRPartitionEntry}
 use Rattle.mbr.specs.declared.MBRHeader.{MBRHeader}
-use Rattle.mbr.specs.Mbr.{mbrBytes, headerChecks}
+use Rattle.mbr.specs.Mbr.{mbrBytes}
 use Rattle.extract.specs.Extract.{sectorSize, diskSectors, records, extractChecks, Good}
 use Rattle.extract.specs.Answers.{headerOf}
 use Rattle.extract.specs.Disk.{Store}
 use Rattle.extract.specs.declared.Extract.{Extract}
-use Rattle.layover.specs.Layover.{headerBytes, laidOver, newExtract}
+use Rattle.layover.specs.Layover.{headerBytes, newExtract}
 use Rattle.layover.specs.Layover as layover
 use Rattle.layover.specs.Answers.{laidSaid, laySays, layLeaves}
 use Rattle.layover.specs.declared.Laid.{Laid}
-use Rattle.layover.specs.declared.Laid.the-variants as laid
 use Rattle.layover.proofs.Rules.{lay-on}
-use Rattle.layover.proofs.Written.{three}
+use Rattle.extractwrite.proofs.Written.{three}
 use Rattle.layover.proofs.Parts.{length-header}
 use Rattle.plan.specs.declared.Slot.{Slot}
 use Rattle.plan.specs.Plan.{pieces, lbaOf, Each}
@@ -35,11 +33,12 @@ use Rattle.push.specs.Push.{geometryOf}
 use Rattle.settle.specs.Settle.{settled, settleChecks, relisted, firstAt, byGeometry}
 use Rattle.settle.proofs.Laws.{relisted-logicals, length-first}
 use Rattle.write.specs.declared.Written.{Written}
-use Rattle.write.specs.Write.{headerStore, ebrStores, chainStores, tableStores, laidAll, extractOver, roomChecks, chainChecks, diskChecks, chainOn, headerOn, writeChecks, leftBy}
+use Rattle.write.specs.Write.{headerStore, chainStores, tableStores, roomChecks, chainChecks, diskChecks, chainOn, headerOn, writeChecks, leftBy}
+use Rattle.records.specs.Records.{ebrStores, laidAll, extractOver}
 use Rattle.write.specs.Answers.{writeSays, writeTable, writeLeaves, Put, Told, Tells, tableBy}
-use Rattle.write.specs.Sources.{bytesFrom, firstOf, storesOf, slotsOf, CodeLong, Writing}
-use Rattle.write.proofs.Laws.{extract-parts, extract-count, extract-long}
-use Rattle.write.proofs.Told.{put-fails, put-skip, told-put, told-fails, told-skip}
+use Rattle.records.specs.Sources.{bytesFrom, firstOf, storesOf, slotsOf, CodeLong, Writing}
+use Rattle.records.proofs.Laws.{extract-parts, extract-count, extract-long}
+use Rattle.write.proofs.Told.{told-put, told-fails, told-skip}
 
 -- room for the new extract
 module _ (x : List ℕ) (n m : ℕ) (first : List ℕ) (t : MBR) (e : MBRPartitionEntry) (w : Writing x n m first) (c : Each CodeLong (firstOf t m)) (l : List Slot) (p : l ≡ slotsOf x t m) (k : ℕ) (q : length l ≡ k) (out : List ℕ) where

@@ -1,13 +1,13 @@
 -- Answers by refusals in their order: which one they are. Assumes nothing.
 use mathlib.Core.Path.{_≡_, refl, sym, ap, _∙_}
-use mathlib.Core.List.{List, [], _∷_, _++_}
+use mathlib.Core.List.{List, _++_}
 use mathlib.Core.Option.{Option, none, some}
 use Prim.Native.Nat.{ℕ}
 use lib.ListN.{length}
 use Rattle.base.specs.Put.{put}
 use Rattle.base.specs.Said.{Said, gives, refuses}
 use Rattle.base.specs.Checks.{Check, answer, checked, first-fail}
-use Rattle.base.proofs.Checks.{onFail, checked-fail, checked-some, append-fails, append-holds, none-fails}
+use Rattle.base.proofs.Checks.{onFail, checked-fail, append-fails, append-holds, none-fails}
 use Rattle.layover.specs.declared.Laid.{Laid}
 use Rattle.layover.specs.Answers.{laidSaid}
 use Rattle.table.specs.declared.MBR.{MBR}

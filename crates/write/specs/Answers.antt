@@ -12,7 +12,8 @@ use Rattle.mbr.specs.declared.MBRHeader.{MBRHeader}
 use Rattle.table.specs.declared.MBR.{MBR}
 use Rattle.table.specs.Table.{extendedIn}
 use Rattle.write.specs.declared.Written.{Written}
-use Rattle.write.specs.Write.{headerStore, tableStores, extractOver, writeChecks, headerOnlyChecks, leftBy}
+use Rattle.write.specs.Write.{headerStore, tableStores, writeChecks, headerOnlyChecks, leftBy}
+use Rattle.records.specs.Records.{extractOver}
 
 -- the new extract's length, or the first refusal
 unfoldable pub writeSays : MBR → List ℕ → ℕ → Said ℕ

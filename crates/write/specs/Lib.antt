@@ -1,3 +1,2 @@
 pub mod Write
 pub mod Answers
-pub mod Sources

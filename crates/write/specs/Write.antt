@@ -5,29 +5,22 @@ use mathlib.Core.Option.{Option, none, some}
 use lib.Dec.{ltb, leb}
 use lib.ListN.{length}
 use Rattle.base.specs.Checks.{Check, _!_}
-use Rattle.base.specs.Row.{next}
 use Rattle.entry.specs.declared.MBRPartitionEntry.{MBRPartitionEntry}
 use Rattle.mbr.specs.declared.MBRHeader.{MBRHeader}
 use Rattle.mbr.specs.Mbr.{mbrBytes, headerChecks}
 use Rattle.extract.specs.Disk.{Store}
-use Rattle.extract.specs.Extract.{sectorSize, diskSectors, records, mostRecords, extractChecks}
-use Rattle.layover.specs.Layover.{extractBytes, laidOver}
+use Rattle.extract.specs.Extract.{diskSectors, records, mostRecords, extractChecks}
 use Rattle.table.specs.declared.LogicalPartition.{LogicalPartition}
 use Rattle.table.specs.declared.MBR.{MBR}
 use Rattle.table.specs.Table.{most, logicals, extendedIn}
 use Rattle.push.specs.declared.Geometry.{Geometry}
 use Rattle.push.specs.Push.{geometryOf}
-use Rattle.links.specs.Links.{write}
 use Rattle.settle.specs.Settle.{settled, settleChecks, relisted}
+unfoldable pub use Rattle.records.specs.Records.{ebrStores, laidAll, extractOver}
 
 -- record 0
 abbrev pub headerStore : MBRHeader → Store
 headerStore h = record { lba = 0; bytes = mbrBytes h }
-
--- the EBRs of logical partitions in an extended entry, in chain order
-unfoldable pub ebrStores : MBRPartitionEntry → List LogicalPartition → List Store
-ebrStores e [] = []
-ebrStores e (l ∷ ls) = write e l (next ls none) ∷ ebrStores e ls
 
 -- without an extended entry none is written
 abbrev pub chainStores : Geometry → Option MBRPartitionEntry → List LogicalPartition → List Store
@@ -37,15 +30,6 @@ chainStores g (some e) ls = ebrStores e (settled g (e .«starting_lba») ls)
 -- what is written of a table
 unfoldable pub tableStores : MBR → List Store
 tableStores t = headerStore (t .header) ∷ chainStores (geometryOf t) (extendedIn t) (logicals t)
-
--- records laid over others, one after the other
-unfoldable pub laidAll : List Store → List Store → List Store
-laidAll [] rs = rs
-laidAll (s ∷ ss) rs = laidAll ss (laidOver s rs)
-
--- the old extract, whose sector size and D hold, with them laid over
-unfoldable pub extractOver : List ℕ → List Store → List ℕ
-extractOver x ss = extractBytes (sectorSize x) (diskSectors x) (laidAll ss (records x))
 
 -- a 65th record 22, lent output too short 19
 unfoldable pub roomChecks : List ℕ → List Store → ℕ → List Check

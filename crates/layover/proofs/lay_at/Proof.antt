@@ -9,7 +9,7 @@ use Rattle.layover.proofs.lay_at.Statement.{statement}
 use Rattle.layover.proofs.lay_at.Tie as tie
 use Rattle.layover.proofs.lay_at.Reads as reads
 use Rattle.layover.proofs.lay_at.Lts as lts
-use Rattle.layover.proofs.put_extract.Reads as put-extract-reads
+use Rattle.extractwrite.proofs.put_extract.Reads as put-extract-reads
 
 add-m : tie.Need-add-m
 add-m c = search needs

@@ -15,7 +15,8 @@ use Rattle.base.specs.Said.{refusal}
 use Rattle.mbr.specs.Mbr.{headerChecks}
 use Rattle.extract.specs.Extract.{diskSectors}
 use Rattle.extract.specs.declared.Extract.{Extract}
-use Rattle.write.specs.Write.{headerStore, extractOver, diskChecks, roomChecks}
+use Rattle.write.specs.Write.{headerStore, diskChecks, roomChecks}
+use Rattle.records.specs.Records.{extractOver}
 use Rattle.write.proofs.Told.{put-fails, put-skip}
 use Rattle.write.proofs.Steps.{disk-none, disk-some, disk-above, header-laid}
 

@@ -3,10 +3,10 @@ use Rattle.write.proofs.put_table.Statement.{statement}
 use Rattle.write.proofs.put_table.Tie as tie
 use Rattle.write.proofs.put_table.Reads as reads
 use Rattle.write.proofs.put_table.Lts as lts
-use Rattle.layover.proofs.put_header.Reads as put-header-reads
+use Rattle.extractwrite.proofs.put_header.Reads as put-header-reads
 use Rattle.plan.proofs.put_lbas.Reads as put-lbas-reads
-use Rattle.write.proofs.plan_for.Reads as plan-for-reads
-use Rattle.write.proofs.put_records.Reads as put-records-reads
+use Rattle.records.proofs.plan_for.Reads as plan-for-reads
+use Rattle.records.proofs.put_records.Reads as put-records-reads
 use lib.ListN.{length, length-map, take}
 use lib.Seq.{length-take-le}
 use Prim.Native.Nat.{_≤_}

@@ -11,7 +11,8 @@ use mathlib.Core.Path.{_≡_, refl, sym, ap, _∙_}
 use Rattle.base.specs.Said.{refusal}
 use Rattle.mbr.specs.Mbr.{headerChecks}
 use Rattle.table.specs.Table.{extendedIn}
-use Rattle.write.specs.Write.{tableStores, extractOver, diskOn, leftBy}
+use Rattle.write.specs.Write.{tableStores, diskOn, leftBy}
+use Rattle.records.specs.Records.{extractOver}
 use Rattle.write.proofs.Told.{told-fails, told-skip}
 
 check-requires : tie.Need-check-requires

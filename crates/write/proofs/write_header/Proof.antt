@@ -13,7 +13,8 @@ use Rattle.mbr.specs.Mbr.{headerChecks}
 use Rattle.extract.specs.Extract.{extractChecks}
 use Rattle.extract.specs.Answers.{headerSaid}
 use Rattle.extract.proofs.Good.{good-told, bad-told}
-use Rattle.write.specs.Write.{headerStore, extractOver, diskChecks, roomChecks, headerOnlyChecks}
+use Rattle.write.specs.Write.{headerStore, diskChecks, roomChecks, headerOnlyChecks}
+use Rattle.records.specs.Records.{extractOver}
 use Rattle.write.specs.Answers.{headerSays, headerLeaves}
 use Rattle.write.proofs.Told.{put-fails, put-skip}
 use Rattle.layover.specs.declared.Laid.the-variants as laid

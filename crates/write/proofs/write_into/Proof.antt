@@ -18,7 +18,8 @@ use Rattle.extract.specs.Extract.{extractChecks, Good}
 use Rattle.extract.specs.Answers.{headerSaid, headerOf}
 use Rattle.extract.proofs.Good.{good-told, bad-told}
 use Rattle.table.specs.Table.{most, extendedIn}
-use Rattle.write.specs.Write.{tableStores, extractOver, headerOn, writeChecks, leftBy}
+use Rattle.write.specs.Write.{tableStores, headerOn, writeChecks, leftBy}
+use Rattle.records.specs.Records.{extractOver}
 use Rattle.write.specs.Answers.{writeSays, writeTable, writeLeaves}
 use Rattle.write.proofs.Told.{told-fails, told-skip}
 use Rattle.write.proofs.Steps.{into-six, into-rest}

@@ -12,7 +12,8 @@ use mathlib.Core.Path.{_≡_, refl, sym, ap, _∙_}
 use mathlib.Core.Option.{none, some}
 use Rattle.mbr.specs.Mbr.{found}
 use Rattle.table.specs.Table.{extendedIn}
-use Rattle.write.specs.Write.{tableStores, extractOver, diskChecks, chainOn, leftBy}
+use Rattle.write.specs.Write.{tableStores, diskChecks, chainOn, leftBy}
+use Rattle.records.specs.Records.{extractOver}
 use Rattle.write.proofs.Told.{told-fails, told-skip}
 use Rattle.write.proofs.Steps.{disk-none, disk-some}
 

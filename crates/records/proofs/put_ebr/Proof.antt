@@ -1,11 +1,11 @@
 use borrow.Author.Needs.{needs}
-use Rattle.write.proofs.put_ebr.Statement.{statement}
-use Rattle.write.proofs.put_ebr.Tie as tie
-use Rattle.write.proofs.put_ebr.Reads as reads
-use Rattle.write.proofs.put_ebr.Lts as lts
+use Rattle.records.proofs.put_ebr.Statement.{statement}
+use Rattle.records.proofs.put_ebr.Tie as tie
+use Rattle.records.proofs.put_ebr.Reads as reads
+use Rattle.records.proofs.put_ebr.Lts as lts
 use Rattle.ebr.proofs.write_at.Reads as write-at-reads
 use Rattle.links.proofs.ebr_with.Reads as ebr-with-reads
-use Rattle.write.proofs.link_at.Reads as link-at-reads
+use Rattle.records.proofs.link_at.Reads as link-at-reads
 use lib.ListN.{length, length-map, drop, getD}
 use lib.Seq.{getD-take}
 use Prim.Native.Nat.{_+_}
@@ -18,8 +18,8 @@ use Rattle.ebr.specs.Ebr.{ebrBytes}
 use Rattle.table.specs.declared.LogicalPartition.{LogicalPartition}
 use Rattle.table.specs.Table.{noLogical}
 use Rattle.links.specs.Links.{write}
-use Rattle.write.specs.Sources.{firstOf}
-use Rattle.write.proofs.Laws.{ebr-written}
+use Rattle.records.specs.Sources.{firstOf}
+use Rattle.records.proofs.Laws.{ebr-written}
 
 mul-l : tie.Need-mul-l
 mul-l c = search needs

@@ -1,18 +1,18 @@
 -- Parts written one behind the other. Assumes nothing.
-use mathlib.Core.Path.{_≡_, refl, sym, ap, _∙_}
-use mathlib.Core.List.{List, [], _∷_, _++_}
-use Prim.Native.Nat.{ℕ, zero, suc, _+_, _*_, _-_, _≤_, _<_}
+use mathlib.Core.Path.{_≡_, refl, ap, _∙_}
+use mathlib.Core.List.{List, _++_}
+use Prim.Native.Nat.{ℕ, _+_, _*_, _-_, _≤_}
 use native.Mathlib.Omega.{arith}
 use native.Mathlib.Nat.{add-assoc}
-use lib.ListN.{length, take, drop, length-append, length-drop}
+use lib.ListN.{length, drop, length-append, length-drop}
 use lib.Seq.{length-take-le}
 use Rattle.base.specs.Bytes.{bytesOf, little}
 use Rattle.base.specs.Put.{put}
 use Rattle.base.proofs.Put.{behind}
 use Rattle.extract.specs.declared.Extract.{Extract}
-use Rattle.layover.specs.Layover.{headerBytes}
-use Rattle.layover.specs.Cut.{part, many, lbaParts, recordParts, allParts, Room}
-use Rattle.layover.proofs.Parts.{length-header}
+use Rattle.extractwrite.specs.Header.{headerBytes}
+use Rattle.extractwrite.specs.Cut.{part, many, lbaParts, recordParts, allParts, Room}
+use Rattle.extractwrite.proofs.Header.{length-header}
 
 pub length-part : (x : List ℕ) (a e : ℕ) → a ≤ e → e ≤ length x → length (part x a e) ≡ e - a
 length-part x a e h k = length-take-le (e - a) (drop a x) (omega (arith, length-drop a x))

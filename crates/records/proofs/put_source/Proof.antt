@@ -1,18 +1,18 @@
 use borrow.Author.Needs.{needs}
-use Rattle.write.proofs.put_source.Statement.{statement}
-use Rattle.write.proofs.put_source.Tie as tie
-use Rattle.write.proofs.put_source.Reads as reads
-use Rattle.write.proofs.put_source.Lts as lts
+use Rattle.records.proofs.put_source.Statement.{statement}
+use Rattle.records.proofs.put_source.Tie as tie
+use Rattle.records.proofs.put_source.Reads as reads
+use Rattle.records.proofs.put_source.Lts as lts
 use Rattle.base.proofs.copy_in.Reads as copy-in-reads
-use Rattle.write.proofs.put_ebr.Reads as put-ebr-reads
+use Rattle.records.proofs.put_ebr.Reads as put-ebr-reads
 use lib.ListN.{length, length-map}
 use lib.Seq.{length-take-le}
 use Prim.Native.Nat.{_+_, _*_, _-_, _≤_, _<_}
 use mathlib.Core.Path.{_≡_, refl, sym, ap, _∙_}
 use native.Mathlib.Omega.{arith}
-use Rattle.write.specs.Write.{ebrStores}
-use Rattle.write.specs.Sources.{firstOf, storesOf}
-use Rattle.write.proofs.Laws.{old-source, ebr-source, put-old, put-first, put-ebr}
+use Rattle.records.specs.Records.{ebrStores}
+use Rattle.records.specs.Sources.{firstOf, storesOf}
+use Rattle.records.proofs.Laws.{old-source, ebr-source, put-old, put-first, put-ebr}
 
 long : (c : lts.Start (copy-in-reads.Asked, copy-in-reads.Learnt, put-ebr-reads.Asked, put-ebr-reads.Learnt) reads.Pre reads.Post) → length (firstOf (c .args .t) (c .args .m)) ≡ c .args .m
 long c =

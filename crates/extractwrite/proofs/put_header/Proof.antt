@@ -1,9 +1,9 @@
-use Rattle.layover.proofs.Written.{header-written}
+use Rattle.extractwrite.proofs.Written.{header-written}
 use borrow.Author.Needs.{needs}
-use Rattle.layover.proofs.put_header.Statement.{statement}
-use Rattle.layover.proofs.put_header.Tie as tie
-use Rattle.layover.proofs.put_header.Reads as reads
-use Rattle.layover.proofs.put_header.Lts as lts
+use Rattle.extractwrite.proofs.put_header.Statement.{statement}
+use Rattle.extractwrite.proofs.put_header.Tie as tie
+use Rattle.extractwrite.proofs.put_header.Reads as reads
+use Rattle.extractwrite.proofs.put_header.Lts as lts
 use Rattle.base.proofs.put32.Reads as put32-reads
 
 put32-requires : tie.Need-put32-requires

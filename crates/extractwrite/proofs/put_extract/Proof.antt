@@ -1,12 +1,12 @@
-use Rattle.layover.proofs.Written.{all-written}
+use Rattle.extractwrite.proofs.Written.{all-written}
 use borrow.Author.Needs.{needs}
-use Rattle.layover.proofs.put_extract.Statement.{statement}
-use Rattle.layover.proofs.put_extract.Tie as tie
-use Rattle.layover.proofs.put_extract.Reads as reads
-use Rattle.layover.proofs.put_extract.Lts as lts
-use Rattle.layover.proofs.put_header.Reads as put-header-reads
-use Rattle.layover.proofs.put_lbas.Reads as put-lbas-reads
-use Rattle.layover.proofs.put_records.Reads as put-records-reads
+use Rattle.extractwrite.proofs.put_extract.Statement.{statement}
+use Rattle.extractwrite.proofs.put_extract.Tie as tie
+use Rattle.extractwrite.proofs.put_extract.Reads as reads
+use Rattle.extractwrite.proofs.put_extract.Lts as lts
+use Rattle.extractwrite.proofs.put_header.Reads as put-header-reads
+use Rattle.extractwrite.proofs.put_lbas.Reads as put-lbas-reads
+use Rattle.extractwrite.proofs.put_records.Reads as put-records-reads
 
 add-m : tie.Need-add-m
 add-m c = search needs

@@ -1,28 +1,26 @@
 -- The plan of the new extract, and the records that it stands for. Assumes nothing.
 use mathlib.Core.Path.{_≡_, refl, sym, ap, subst, _∙_}
-use mathlib.Core.List.{List, [], _∷_, _++_, map, append-nil, append-assoc}
+use mathlib.Core.List.{List, [], _∷_, _++_, map, append-nil}
 use mathlib.Core.Bool.{Bool, true, false}
 use mathlib.Core.Option.{Option, none, some}
-use mathlib.Core.Logic.{_⊎_, inl, inr}
+use mathlib.Core.Logic.{inl, inr}
 use Prim.Native.Nat.{ℕ, zero, suc, _+_, _*_, _-_, _≤_, _<_}
 use native.Mathlib.Numerals.{add-one}
 use native.Mathlib.Nat.{add-zero}
 use native.Mathlib.Omega.{arith}
 use lib.Dec.{eqb, ltb}
-use lib.ListN.{length, take, drop, getD, length-append, length-map, drop-of-length-le, replicate}
-use lib.Seq.{drop-cons, drop-length, take-all, take-suc, length-take-le}
+use lib.ListN.{length, take, drop, getD, length-append, length-map, drop-of-length-le}
+use lib.Seq.{drop-cons, drop-length, take-suc}
 use borrow.Author.Tests.{lt-ltb, le-ltb}
 use Rattle.base.specs.Pick.{pick}
 use Rattle.base.specs.Put.{put}
 use Rattle.base.specs.Row.{next}
-use Rattle.base.specs.Bytes.{Record}
 use Rattle.entry.specs.declared.MBRPartitionEntry.{MBRPartitionEntry}
 use Rattle.ebr.specs.declared.EBRHeader.{EBRHeader}
 use Rattle.ebr.specs.Ebr.{ebrBytes}
 use Rattle.mbr.specs.declared.MBRHeader.{MBRHeader}
 use Rattle.mbr.specs.Mbr.{mbrBytes}
-use Rattle.entry.specs.Entry.{entryBytes, noEntry}
-use Rattle.chain.specs.Chain.{startingAt}
+use Rattle.entry.specs.Entry.{noEntry}
 use Rattle.extract.specs.Disk.{Store}
 use Rattle.extract.specs.Extract.{count, records, recordAt, recordsFrom, sectorSize, diskSectors, Good}
 use Rattle.extract.proofs.Disk.{record-at}
@@ -37,8 +35,8 @@ use Rattle.table.specs.declared.MBR.{MBR}
 use Rattle.table.specs.Table.{noLogical}
 use Rattle.chain.specs.Facts.{at, bodyOf, leads}
 use Rattle.links.specs.Links.{linkEntry, ebrFor, ebrWith, write}
-use Rattle.write.specs.Write.{ebrStores, laidAll, extractOver}
-use Rattle.write.specs.Sources.{storeAt, bytesFrom, placesFrom, firstOf, storesOf, slotsOf, CodeLong, Valid, Writing}
+use Rattle.records.specs.Records.{ebrStores, laidAll, extractOver}
+use Rattle.records.specs.Sources.{storeAt, bytesFrom, placesFrom, firstOf, storesOf, slotsOf, CodeLong, Valid, Writing}
 
 -- slots laid over, and their records
 pub all-map : (f : ℕ → List ℕ) (ss ts : List Slot) → map (storeOf f) (slotsOver ss ts) ≡ laidAll (map (storeOf f) ss) (map (storeOf f) ts)

@@ -1,8 +1,8 @@
 use borrow.Author.Needs.{needs}
-use Rattle.write.proofs.link_at.Statement.{statement}
-use Rattle.write.proofs.link_at.Tie as tie
-use Rattle.write.proofs.link_at.Reads as reads
-use Rattle.write.proofs.link_at.Lts as lts
+use Rattle.records.proofs.link_at.Statement.{statement}
+use Rattle.records.proofs.link_at.Tie as tie
+use Rattle.records.proofs.link_at.Reads as reads
+use Rattle.records.proofs.link_at.Lts as lts
 use Rattle.entry.proofs.MBRPartitionEntry.empty.Reads as empty-reads
 use Rattle.links.proofs.link_to.Reads as link-to-reads
 use lib.ListN.{length, length-map, drop, drop-of-length-le}
@@ -15,8 +15,8 @@ use Rattle.table.specs.declared.LogicalPartition.{LogicalPartition}
 use Rattle.table.specs.Table.{noLogical}
 use Rattle.chain.specs.Facts.{leads}
 use Rattle.links.specs.Links.{linkEntry}
-use Rattle.write.specs.Sources.{firstOf}
-use Rattle.write.proofs.Laws.{link-none, link-some}
+use Rattle.records.specs.Sources.{firstOf}
+use Rattle.records.proofs.Laws.{link-none, link-some}
 
 long : (c : lts.Start (empty-reads.Asked, empty-reads.Learnt, link-to-reads.Asked, link-to-reads.Learnt) reads.Pre reads.Post) → length (firstOf (c .args .t1) (c .args .m)) ≡ c .args .m
 long c =

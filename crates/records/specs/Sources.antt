@@ -1,5 +1,5 @@
 -- Where each record of the new extract comes from: what the internal functions work on. Assumes nothing.
-use Prim.Native.Nat.{ℕ, zero, suc, _+_, _*_, _-_, _≤_, _<_}
+use Prim.Native.Nat.{ℕ, zero, suc, _+_, _-_, _≤_, _<_}
 use mathlib.Core.List.{List, [], _∷_}
 use mathlib.Core.Path.{_≡_}
 use mathlib.Core.Logic.{_⊎_}
@@ -9,15 +9,12 @@ use Rattle.base.specs.Pick.{pick}
 use Rattle.entry.specs.declared.MBRPartitionEntry.{MBRPartitionEntry}
 use Rattle.extract.specs.Disk.{Store}
 use Rattle.extract.specs.Extract.{count, recordAt, Good}
-use Rattle.extract.specs.Answers.{headerOf}
-use Rattle.extract.specs.declared.Extract.{Extract}
 use Rattle.plan.specs.declared.Slot.{Slot}
-use Rattle.plan.specs.declared.Plan.{Plan}
-use Rattle.plan.specs.Plan.{planned, slotsFrom, slotsOver, Each}
+use Rattle.plan.specs.Plan.{slotsFrom, slotsOver}
 use Rattle.table.specs.declared.LogicalPartition.{LogicalPartition}
 use Rattle.table.specs.declared.MBR.{MBR}
 use Rattle.chain.specs.Facts.{at}
-use Rattle.write.specs.Write.{ebrStores}
+use Rattle.records.specs.Records.{ebrStores}
 
 -- the bytes of store number k
 unfoldable pub storeAt : List Store → ℕ → List ℕ

@@ -1,9 +1,9 @@
-use Rattle.layover.proofs.Written.{records-written}
+use Rattle.extractwrite.proofs.Written.{records-written}
 use borrow.Author.Needs.{needs}
-use Rattle.layover.proofs.put_records.Statement.{statement}
-use Rattle.layover.proofs.put_records.Tie as tie
-use Rattle.layover.proofs.put_records.Reads as reads
-use Rattle.layover.proofs.put_records.Lts as lts
+use Rattle.extractwrite.proofs.put_records.Statement.{statement}
+use Rattle.extractwrite.proofs.put_records.Tie as tie
+use Rattle.extractwrite.proofs.put_records.Reads as reads
+use Rattle.extractwrite.proofs.put_records.Lts as lts
 use Rattle.base.proofs.copy_in.Reads as copy-in-reads
 
 mul-start : tie.Need-mul-start

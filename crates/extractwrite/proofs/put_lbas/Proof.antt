@@ -1,9 +1,9 @@
-use Rattle.layover.proofs.Written.{lbas-written}
+use Rattle.extractwrite.proofs.Written.{lbas-written}
 use borrow.Author.Needs.{needs}
-use Rattle.layover.proofs.put_lbas.Statement.{statement}
-use Rattle.layover.proofs.put_lbas.Tie as tie
-use Rattle.layover.proofs.put_lbas.Reads as reads
-use Rattle.layover.proofs.put_lbas.Lts as lts
+use Rattle.extractwrite.proofs.put_lbas.Statement.{statement}
+use Rattle.extractwrite.proofs.put_lbas.Tie as tie
+use Rattle.extractwrite.proofs.put_lbas.Reads as reads
+use Rattle.extractwrite.proofs.put_lbas.Lts as lts
 use Rattle.base.proofs.copy_in.Reads as copy-in-reads
 use Rattle.base.proofs.put32.Reads as put32-reads
 

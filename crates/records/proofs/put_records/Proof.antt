@@ -1,8 +1,8 @@
-use Rattle.write.proofs.put_records.Statement.{statement}
-use Rattle.write.proofs.put_records.Tie as tie
-use Rattle.write.proofs.put_records.Reads as reads
-use Rattle.write.proofs.put_records.Lts as lts
-use Rattle.write.proofs.put_source.Reads as put-source-reads
+use Rattle.records.proofs.put_records.Statement.{statement}
+use Rattle.records.proofs.put_records.Tie as tie
+use Rattle.records.proofs.put_records.Reads as reads
+use Rattle.records.proofs.put_records.Lts as lts
+use Rattle.records.proofs.put_source.Reads as put-source-reads
 use lib.ListN.{length, length-map, take}
 use lib.Seq.{length-take-le, getD-take, take-all}
 use Prim.Native.Nat.{ℕ, _+_, _*_, _-_, _≤_, _<_}
@@ -13,8 +13,8 @@ use Rattle.base.specs.Put.{put}
 use Rattle.plan.specs.declared.Slot.{Slot}
 use Rattle.plan.specs.Plan.{pieces, noSlot, Each}
 use Rattle.plan.proofs.Laws.{pieces-none, pieces-more, Wide}
-use Rattle.write.specs.Sources.{bytesFrom, firstOf, storesOf, Valid}
-use Rattle.write.proofs.Laws.{plan-wide, valid-at}
+use Rattle.records.specs.Sources.{bytesFrom, firstOf, storesOf, Valid}
+use Rattle.records.proofs.Laws.{plan-wide, valid-at}
 use borrow.Author.Needs.{needs}
 
 abbrev Inv-loop : tie.InvT-loop

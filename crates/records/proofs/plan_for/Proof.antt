@@ -1,10 +1,10 @@
-use Rattle.write.proofs.plan_for.Statement.{statement}
-use Rattle.write.proofs.plan_for.Tie as tie
-use Rattle.write.proofs.plan_for.Reads as reads
-use Rattle.write.proofs.plan_for.Lts as lts
+use Rattle.records.proofs.plan_for.Statement.{statement}
+use Rattle.records.proofs.plan_for.Tie as tie
+use Rattle.records.proofs.plan_for.Reads as reads
+use Rattle.records.proofs.plan_for.Lts as lts
 use Rattle.plan.proofs.lay.Reads as lay-reads
 use Rattle.plan.proofs.old.Reads as old-reads
-use Rattle.write.proofs.place_of.Reads as place-of-reads
+use Rattle.records.proofs.place_of.Reads as place-of-reads
 use lib.ListN.{length, length-map, take, drop}
 use lib.Seq.{length-take-le, getD-take, take-all}
 use Prim.Native.Nat.{_+_, _-_, _≤_, _<_}
@@ -16,8 +16,8 @@ use Rattle.plan.specs.declared.Slot.{Slot}
 use Rattle.plan.specs.Plan.{planned, slotOver, slotsOver, Each}
 use Rattle.table.specs.declared.LogicalPartition.{LogicalPartition}
 use Rattle.table.specs.Table.{noLogical}
-use Rattle.write.specs.Sources.{placesFrom, firstOf, slotsOf, CodeLong}
-use Rattle.write.proofs.Laws.{slots-more, slots-end, codes-more, plan-start, plan-turn}
+use Rattle.records.specs.Sources.{placesFrom, firstOf, slotsOf, CodeLong}
+use Rattle.records.proofs.Laws.{slots-more, slots-end, codes-more, plan-start, plan-turn}
 use borrow.Author.Needs.{needs}
 
 abbrev Inv-loop : tie.InvT-loop

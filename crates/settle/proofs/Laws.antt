@@ -9,7 +9,6 @@ use native.Mathlib.Omega.{arith}
 use lib.ListN.{length, take, drop, getD, set, length-append, length-drop, length-map, take-append-drop}
 use lib.Seq.{take-suc, drop-cons, drop-length, drop-at, take-at, length-take-le, set-at, append-snoc, take-all}
 use Rattle.base.specs.Checks.{Check, first-fail}
-use Rattle.base.specs.Row.{next}
 use Rattle.base.specs.Pick.{pick}
 use Rattle.base.proofs.Checks.{append-fails, append-holds, none-fails}
 use Rattle.table.specs.declared.LogicalPartition.{LogicalPartition}
@@ -71,47 +70,39 @@ module _ (g : Geometry) (l : List LogicalPartition) (i : ℕ) (h : i < length l)
       → first-fail (allGeometry g (drop i l)) ≡ first-fail (allGeometry g (drop (i + 1) l))
   geometry-holds e = geometry-here ∙ left-holds (pick (complete g) (updateChecks g (getD l i noLogical)) []) (allGeometry g (drop (i + 1) l)) e
 
-module _ (d : ℕ) (l : List LogicalPartition) (i : ℕ) (h : i < length l) where
-  abbrev here : List Check
-  here = rowChecks d (getD l i noLogical) (linked (next (drop (i + 1) l) none))
-
-  rows-here : first-fail (allRows d (drop i l)) ≡ first-fail (here ++ allRows d (drop (i + 1) l))
+-- the refusals of one logical partition l and of those from number i on, of which m is the first
+module _ (d : ℕ) (ls : List LogicalPartition) (l m : LogicalPartition) (i : ℕ) (h : i < length ls) (p : getD ls i noLogical ≡ m) where
+  rows-here : first-fail (allRows d (l ∷ drop i ls)) ≡ first-fail (rowChecks d l (linked (some m)) ++ allRows d (m ∷ drop (i + 1) ls))
   unfolding allRows
-  rows-here = rw (drop-cons l i noLogical h, add-one i)
+  rows-here = rw (drop-cons ls i noLogical h, p, add-one i)
 
-  module _ (m : LogicalPartition) (b : Bool) (o : Option ℕ) (p : getD l i noLogical ≡ m) (q : b ≡ linked (next (drop (i + 1) l) none)) (r : o ≡ first-fail (rowChecks d m b)) where
-    row-here : first-fail here ≡ o
-    row-here =
-        ap (λ (n : LogicalPartition). first-fail (rowChecks d n (linked (next (drop (i + 1) l) none)))) p
-        ∙ ap (λ (w : Bool). first-fail (rowChecks d m w)) (sym q)
-        ∙ sym r
+  module _ (b : Bool) (o : Option ℕ) (q : b ≡ linked (some m)) (r : o ≡ first-fail (rowChecks d l b)) where
+    row-here : first-fail (rowChecks d l (linked (some m))) ≡ o
+    row-here = ap (λ (w : Bool). first-fail (rowChecks d l w)) (sym q) ∙ sym r
 
-    pub rows-fails : (k : ℕ) → o ≡ some k → first-fail (allRows d (drop i l)) ≡ some k
-    rows-fails k e = rows-here ∙ left-fails here (allRows d (drop (i + 1) l)) (row-here ∙ e)
+    pub rows-fails : (k : ℕ) → o ≡ some k → first-fail (allRows d (l ∷ drop i ls)) ≡ some k
+    rows-fails k e = rows-here ∙ left-fails (rowChecks d l (linked (some m))) (allRows d (m ∷ drop (i + 1) ls)) (row-here ∙ e)
 
-    pub rows-holds : o ≡ none → first-fail (allRows d (drop i l)) ≡ first-fail (allRows d (drop (i + 1) l))
-    rows-holds e = rows-here ∙ left-holds here (allRows d (drop (i + 1) l)) (row-here ∙ e)
+    pub rows-holds : o ≡ none → first-fail (allRows d (l ∷ drop i ls)) ≡ first-fail (allRows d (m ∷ drop (i + 1) ls))
+    rows-holds e = rows-here ∙ left-holds (rowChecks d l (linked (some m))) (allRows d (m ∷ drop (i + 1) ls)) (row-here ∙ e)
 
 pub geometry-end : (g : Geometry) (l : List LogicalPartition) (i : ℕ) → i ≡ length l → first-fail (allGeometry g (drop i l)) ≡ none
 unfolding allGeometry
 geometry-end g l i e = rw (e, drop-length l)
 
-pub rows-end : (d : ℕ) (l : List LogicalPartition) (i : ℕ) → i ≡ length l → first-fail (allRows d (drop i l)) ≡ none
+-- the first n of a list, where there is none, from the first on, behind the last
+pub rows-none : (d n : ℕ) (l : List LogicalPartition) → n ≡ 0 → first-fail (allRows d (take n l)) ≡ none
 unfolding allRows
-rows-end d l i e = rw (e, drop-length l)
+rows-none d n l e = rw e
 
--- the one at number i, if there is one
-pub linked-none : (l : List LogicalPartition) (i : ℕ) → length l ≤ i → true ≡ linked (next (drop i l) none)
-linked-none l i h = rw (past l i h)
-  where
-    past : (l : List LogicalPartition) (i : ℕ) → length l ≤ i → drop i l ≡ []
-    past [] zero h = refl
-    past [] (suc i) h = refl
-    past (a ∷ l) zero h = absurd (omega arith)
-    past (a ∷ l) (suc i) h = past l i (omega arith)
+pub rows-first : (d n : ℕ) (l : List LogicalPartition) → (n ≡ 0 → ⊥) → 0 < length l → first-fail (allRows d (take n l)) ≡ first-fail (allRows d (getD l 0 noLogical ∷ drop 1 (take n l)))
+rows-first d zero l h k = absurd (h refl)
+rows-first d (suc n) [] h k = absurd (omega arith)
+rows-first d (suc n) (l ∷ ls) h k = refl
 
-pub linked-some : (l : List LogicalPartition) (i : ℕ) → i < length l → linked (some (getD l i noLogical)) ≡ linked (next (drop i l) none)
-linked-some l i h = rw (drop-cons l i noLogical h)
+pub rows-end : (d : ℕ) (ls : List LogicalPartition) (l : LogicalPartition) (i : ℕ) → i ≡ length ls → first-fail (allRows d (l ∷ drop i ls)) ≡ first-fail (rowChecks d l true)
+unfolding allRows
+rows-end d ls l i e = rw (e, drop-length ls)
 
 -- a table whose logical partitions were replaced
 module _ (t : MBR) (ls : List LogicalPartition) (h : length ls ≡ t .count) where

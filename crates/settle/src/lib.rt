@@ -10,13 +10,11 @@ ghost use mathlib.Core.Path.{_≡_};
 ghost use mathlib.Core.Option.{none, some};
 ghost use mathlib.Core.List.{map};
 ghost use Prim.Native.Nat.{_≤_};
-ghost use lib.ListN.{drop};
 ghost use Rattle.base.specs.Said.{refusal};
 ghost use Rattle.base.specs.Checks.{first-fail};
-ghost use Rattle.base.specs.Row.{next};
 ghost use Rattle.table.specs.Table.{logicals};
 ghost use Rattle.push.specs.Push.{geometryOf};
-ghost use Rattle.settle.specs.Settle.{atStart, firstAt, byGeometry, allGeometry, settled, linkThere, linked, rowChecks, allRows, relisted, settleChecks};
+ghost use Rattle.settle.specs.Settle.{atStart, firstAt, byGeometry, allGeometry, settled, linkThere, rowChecks, allRows, relisted, settleChecks};
 
 // A table, and what the call says beside it.
 pub struct Settled {
@@ -101,20 +99,6 @@ fn has_link(sectors: MaybeSectors, last: MaybeChs) -> bool
     }
 }
 
-// Has the logical partition at a place its link fields, if there is one?
-fn linked_at(t: MBR, i: usize) -> bool
-    requires { ⌜ t .count ≤ 24 ⌝ }
-    ensures { λ r. ⌜ r ≡ linked (next (drop i (logicals t)) none) ⌝ }
-{
-    if t.count <= i {
-        return true;
-    }
-    let l = t.logical_partitions[i];
-    let sectors = l.ebr_sectors;
-    let last = l.ebr_last_chs;
-    has_link(sectors, last)
-}
-
 // Flag 4, EBR at or past the end 2, the next lacks its link fields 18.
 fn row(l: LogicalPartition, d: u32, follows: bool) -> Answer
     ensures { λ r. ⌜ refusal r ≡ first-fail (rowChecks d l follows) ⌝ }
@@ -139,15 +123,22 @@ fn rows(t: MBR, d: u32) -> Answer
     ensures { λ r. ⌜ refusal r ≡ first-fail (allRows d (logicals t)) ⌝ }
 {
     let n = t.count;
-    for i in 0..n {
-        let l = t.logical_partitions[i];
-        let follows = linked_at(t, i + 1);
+    if n == 0 {
+        return Answer::Done;
+    }
+    let mut l = t.logical_partitions[0];
+    for i in 1..n {
+        let m = t.logical_partitions[i];
+        let sectors = m.ebr_sectors;
+        let last = m.ebr_last_chs;
+        let follows = has_link(sectors, last);
         let a = row(l, d, follows);
         if let Answer::Refused(k) = a {
             return Answer::Refused(k);
         }
+        l = m;
     }
-    Answer::Done
+    row(l, d, true)
 }
 
 // The table as writing leaves it, for an extended entry that starts at x on a disk of d sectors; a refusal's table means nothing.

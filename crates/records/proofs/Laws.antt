@@ -235,11 +235,11 @@ pub link-none : (e : MBRPartitionEntry) (ls : List LogicalPartition) (i : ℕ) �
 unfolding linkEntry
 link-none e ls i h = rw (drop-of-length-le ls h)
 
-pub link-some : (e : MBRPartitionEntry) (ls : List LogicalPartition) (i : ℕ) → i < length ls
-    → linkEntry (e .sys) (leads (e .«starting_lba») (some (getD ls i noLogical))) ≡ linkEntry (e .sys) (leads (e .«starting_lba») (next (drop i ls) none))
-link-some e ls i h = rw (drop-cons ls i noLogical h)
+pub link-some : (e : MBRPartitionEntry) (ls : List LogicalPartition) (i : ℕ) (f : LogicalPartition) → i < length ls → getD ls i noLogical ≡ f
+    → linkEntry (e .sys) (leads (e .«starting_lba») (some f)) ≡ linkEntry (e .sys) (leads (e .«starting_lba») (next (drop i ls) none))
+link-some e ls i f h p = rw (drop-cons ls i noLogical h, p)
 
--- a source below 64 is an old record; one above 64 an EBR
+-- a source below 64 is an old record, 64 is record 0, and one above it an EBR
 pub old-source : (x : List ℕ) (n m k : ℕ) (first : List ℕ) → Writing x n m first → Valid n m k → k < 64 → (k < n) × (n ≤ 64) × (length x ≡ 24 + n * 516)
 old-source x n m k first w (inl h) l =
     let f = good-few x (w .good) in
@@ -247,14 +247,17 @@ old-source x n m k first w (inl h) l =
     (h, omega (arith, w .number), omega (arith, w .number))
 old-source x n m k first w (inr h) l = absurd (omega arith)
 
-pub ebr-source : (x : List ℕ) (n m k : ℕ) (first : List ℕ) → Writing x n m first → Valid n m k → 64 ≤ k → (k ≡ 64 → ⊥) → (65 ≤ k) × (k - 65 < m)
-ebr-source x n m k first w (inl h) l o = absurd (omega (arith, good-few x (w .good), w .number))
-ebr-source x n m k first w (inr h) l o =
-    let p : 65 ≤ k = above k l o in
-    (p, omega arith)
-  where
-    above : (k : ℕ) → 64 ≤ k → (k ≡ 64 → ⊥) → 65 ≤ k
-    above k p q = omega arith
+pub first-source : (x : List ℕ) (n k : ℕ) (first : List ℕ) → Writing x n 0 first → Valid n 0 k → 64 ≤ k → k ≡ 64
+first-source x n k first w (inl h) l = absurd (omega (arith, good-few x (w .good), w .number))
+first-source x n k first w (inr h) l = omega arith
+
+pub kept-source : (n m k : ℕ) → Valid n m k → k < 65 → Valid n 0 k
+kept-source n m k (inl h) l = inl h
+kept-source n m k (inr h) l = inr (h .0, l)
+
+pub ebr-source : (x : List ℕ) (n m k : ℕ) (first : List ℕ) → Writing x n m first → Valid n m k → 65 ≤ k → k - 65 < m
+ebr-source x n m k first w (inl h) l = absurd (omega (arith, good-few x (w .good), w .number))
+ebr-source x n m k first w (inr h) l = omega arith
 
 pub put-old : (x out : List ℕ) (ss : List Store) (at n k : ℕ) → n ≡ count x → k < 64
     → put out at (take (24 + n * 4 + k * 512 + 512 - (24 + n * 4 + k * 512)) (drop (24 + n * 4 + k * 512) x)) ≡ put out at (bytesFrom x ss k)
@@ -267,11 +270,19 @@ pub put-first : (x out : List ℕ) (first : List ℕ) (ss : List Store) (at k : 
 put-first x out first ss at k e =
     ap (put out at) (sym (from-first x (record { lba = 0; bytes = first }) ss)) ∙ ap (λ j. put out at (bytesFrom x (record { lba = 0; bytes = first } ∷ ss) j)) (sym e)
 
-pub put-ebr : (x out first : List ℕ) (e : MBRPartitionEntry) (ls : List LogicalPartition) (at k : ℕ) → 65 ≤ k → k - 65 < length ls
-    → put out at (write e (getD ls (k - 65) noLogical) (next (drop (k - 65 + 1) ls) none) .bytes) ≡ put out at (bytesFrom x (record { lba = 0; bytes = first } ∷ ebrStores e ls) k)
-put-ebr x out first e ls at k h l =
+-- the bytes of a source that is no EBR, and of one that is
+pub kept-bytes : (x : List ℕ) (s : Store) (ss : List Store) (k : ℕ) → k < 65 → bytesFrom x (s ∷ []) k ≡ bytesFrom x (s ∷ ss) k
+unfolding bytesFrom storeAt
+kept-bytes x s ss k h = let z : k - 64 ≡ 0 = omega arith in rw z
+
+pub ebr-bytes : (x : List ℕ) (s : Store) (e : MBRPartitionEntry) (ls : List LogicalPartition) (k : ℕ) (l : LogicalPartition) (link : MBRPartitionEntry) → 65 ≤ k → k - 65 < length ls
+    → getD ls (k - 65) noLogical ≡ l → link ≡ linkEntry (e .sys) (leads (e .«starting_lba») (next (drop (k - 65 + 1) ls) none)) → ebrBytes (ebrWith l link) ≡ bytesFrom x (s ∷ ebrStores e ls) k
+ebr-bytes x s e ls k l link h i p q =
     let z : k ≡ 65 + (k - 65) = omega arith in
-    ap (put out at) (sym (from-ebr x (record { lba = 0; bytes = first }) (ebrStores e ls) k (k - 65) z ∙ store-at e ls (k - 65) l))
+    let n = next (drop (k - 65 + 1) ls) none in
+    ebr-written e l n link q
+    ∙ ap (λ (a : LogicalPartition). write e a n .bytes) (sym p)
+    ∙ sym (from-ebr x s (ebrStores e ls) k (k - 65) z ∙ store-at e ls (k - 65) i)
 
 pub valid-at : (x : List ℕ) (n m : ℕ) (first : List ℕ) (t : MBR) (e : MBRPartitionEntry) → Writing x n m first → Each CodeLong (firstOf t m) → length (firstOf t m) ≡ m
     → (l : List Slot) → l ≡ slotsOf x t m → (i : ℕ) → i < length l → (s : Slot) → getD l i noSlot ≡ s → Valid n m (s .source)

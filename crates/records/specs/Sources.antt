@@ -26,6 +26,10 @@ storeAt (s ∷ ss) (suc k) = storeAt ss k
 unfoldable pub bytesFrom : List ℕ → List Store → ℕ → List ℕ
 bytesFrom x ss k = pick (ltb k 64) (recordAt x k) (storeAt ss (k - 64))
 
+-- so are those of a source that is no EBR
+abbrev pub keptFrom : List ℕ → List ℕ → ℕ → List ℕ
+keptFrom x first k = bytesFrom x (record { lba = 0; bytes = first } ∷ []) k
+
 -- the slots of EBRs, whose sources are numbered from k on
 unfoldable pub placesFrom : ℕ → List LogicalPartition → List Slot
 placesFrom k [] = []

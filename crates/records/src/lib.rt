@@ -5,17 +5,15 @@ use plan::Slot;
 use table::LogicalPartition;
 use table::MBR;
 ghost use mathlib.Core.Path.{_≡_};
-ghost use mathlib.Core.Option.{none};
 ghost use Prim.Native.Nat.{_+_, _*_, _≤_, _<_};
-ghost use lib.ListN.{length, getD, drop};
+ghost use lib.ListN.{length};
 ghost use Rattle.base.specs.Put.{put};
-ghost use Rattle.base.specs.Row.{next};
 ghost use Rattle.extract.specs.Extract.{Good, count};
-ghost use Rattle.table.specs.Table.{noLogical};
-ghost use Rattle.chain.specs.Facts.{at, leads};
+ghost use Rattle.chain.specs.Facts.{at};
 ghost use Rattle.plan.specs.Plan.{planned, pieces, Each};
-ghost use Rattle.links.specs.Links.{linkEntry, write};
-ghost use Rattle.records.specs.Sources.{bytesFrom, firstOf, storesOf, slotsOf, CodeLong, Valid, Writing};
+ghost use Rattle.links.specs.Links.{ebrWith};
+ghost use Rattle.ebr.specs.Ebr.{ebrBytes};
+ghost use Rattle.records.specs.Sources.{bytesFrom, keptFrom, firstOf, storesOf, slotsOf, CodeLong, Valid, Writing};
 
 // Where the EBR of a logical partition goes.
 fn place_of(l: LogicalPartition) -> u32
@@ -45,57 +43,29 @@ pub fn plan_for(x: &[u8], n: usize, t: MBR, m: usize) -> Plan
     p
 }
 
-// The link to logical partition i of the first m; behind the last the ending one.
-fn link_at(t: MBR, e: MBRPartitionEntry, m: usize, i: usize) -> MBRPartitionEntry
-    requires { ⌜ m ≤ 24 ⌝ }
-    ensures { λ r. ⌜ r ≡ linkEntry (e .sys) (leads (e .«starting_lba») (next (drop i (firstOf t m)) none)) ⌝ }
-{
-    if m <= i {
-        return MBRPartitionEntry::empty();
-    }
-    let l = t.logical_partitions[i];
-    links::link_to(e, l)
-}
-
-// The EBR of logical partition i of the first m, from index `at` on.
-fn put_ebr(out: &mut [u8], at: usize, t: MBR, e: MBRPartitionEntry, m: usize, i: usize)
-    requires { ⌜ (i < m) × (m ≤ 24) × (at + 512 ≤ length (now out)) ⌝ }
-    ensures { λ _. ⌜ now (out .exit) ≡ put (now (out .entry)) at (write e (getD (firstOf t m) i noLogical) (next (drop (i + 1) (firstOf t m)) none) .bytes) ⌝ }
-{
-    let l = t.logical_partitions[i];
-    let link = link_at(t, e, m, i + 1);
-    let h = links::ebr_with(l, link);
-    ebr::write_at(out, at, h);
-}
-
-// The record of a source, from index `at` on.
-fn put_source(
-    out: &mut [u8],
-    at: usize,
-    x: &[u8],
-    n: usize,
-    first: &[u8],
-    t: MBR,
-    e: MBRPartitionEntry,
-    m: usize,
-    source: usize,
-)
-    requires { ⌜ Writing (now x) n m (now first) × Valid n m source × (at + 512 ≤ length (now out)) ⌝ }
-    ensures { λ _. ⌜ now (out .exit) ≡ put (now (out .entry)) at (bytesFrom (now (x .entry)) (storesOf (now (first .entry)) e t m) source) ⌝ }
+// An old record, or record 0, from index `at` on.
+fn put_kept(out: &mut [u8], at: usize, x: &[u8], n: usize, first: &[u8], source: usize)
+    requires { ⌜ Writing (now x) n 0 (now first) × Valid n 0 source × (at + 512 ≤ length (now out)) ⌝ }
+    ensures { λ _. ⌜ now (out .exit) ≡ put (now (out .entry)) at (keptFrom (now (x .entry)) (now (first .entry)) source) ⌝ }
 {
     if source < 64 {
         let from = 24 + n * 4 + source * 512;
         base::copy_in(out, at, &x[from..from + 512]);
         return;
     }
-    if source == 64 {
-        base::copy_in(out, at, first);
-        return;
-    }
-    put_ebr(out, at, t, e, m, source - 65);
+    base::copy_in(out, at, first);
 }
 
-// The records of the planned extract, from index `at` on, each once.
+// The EBR of a logical partition with a link entry, from index `at` on.
+fn put_ebr(out: &mut [u8], at: usize, l: LogicalPartition, link: MBRPartitionEntry)
+    requires { ⌜ at + 512 ≤ length (now out) ⌝ }
+    ensures { λ _. ⌜ now (out .exit) ≡ put (now (out .entry)) at (ebrBytes (ebrWith l link)) ⌝ }
+{
+    let h = links::ebr_with(l, link);
+    ebr::write_at(out, at, h);
+}
+
+// The records of the planned extract, from index `at` on, each once; the last EBR's link is the ending one.
 pub fn put_records(
     out: &mut [u8],
     at: usize,
@@ -114,6 +84,18 @@ pub fn put_records(
     let k = p.count;
     for i in 0..k {
         let s = p.slots[i];
-        put_source(out, at + i * 512, x, n, first, t, e, m, s.source);
+        let to = at + i * 512;
+        if s.source < 65 {
+            put_kept(out, to, x, n, first, s.source);
+        } else {
+            let j = s.source - 65;
+            let l = t.logical_partitions[j];
+            if j + 1 < m {
+                let f = t.logical_partitions[j + 1];
+                put_ebr(out, to, l, links::link_to(e, f));
+            } else {
+                put_ebr(out, to, l, MBRPartitionEntry::empty());
+            }
+        }
     }
 }

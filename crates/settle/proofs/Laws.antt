@@ -1,13 +1,13 @@
 -- Tables with other logical partitions, and refusals one logical partition after the other. Assumes nothing.
 use mathlib.Core.Path.{_≡_, refl, sym, ap, _∙_}
-use mathlib.Core.List.{List, [], _∷_, _++_, append-assoc, map, map-append}
-use mathlib.Core.Bool.{Bool, true, false}
+use mathlib.Core.List.{List, [], _∷_, _++_, map, map-append}
+use mathlib.Core.Bool.{Bool, true}
 use mathlib.Core.Option.{Option, none, some}
 use Prim.Native.Nat.{ℕ, zero, suc, _+_, _-_, _≤_, _<_}
 use native.Mathlib.Numerals.{add-one}
 use native.Mathlib.Omega.{arith}
-use lib.ListN.{length, take, drop, getD, set, length-append, length-drop, length-map, take-append-drop}
-use lib.Seq.{take-suc, drop-cons, drop-length, drop-at, take-at, length-take-le, set-at, append-snoc, take-all}
+use lib.ListN.{length, take, drop, getD, set, length-map, take-append-drop}
+use lib.Seq.{take-suc, drop-cons, drop-length, drop-at, take-at, length-take-le, set-at, append-snoc}
 use Rattle.base.specs.Checks.{Check, first-fail}
 use Rattle.base.specs.Pick.{pick}
 use Rattle.base.proofs.Checks.{append-fails, append-holds, none-fails}
@@ -15,7 +15,7 @@ use Rattle.table.specs.declared.LogicalPartition.{LogicalPartition}
 use Rattle.table.specs.declared.MBR.{MBR}
 use Rattle.table.specs.Table.{noLogical, withLogicals, logicals}
 use Rattle.push.specs.declared.Geometry.{Geometry}
-use Rattle.push.specs.Address.{complete, updateChecks, addressed}
+use Rattle.push.specs.Address.{complete, updateChecks}
 use Rattle.push.specs.Push.{geometryOf}
 use Rattle.settle.specs.Settle.{atStart, firstAt, byGeometry, allGeometry, settled, linked, rowChecks, allRows, relisted, settleChecks}
 

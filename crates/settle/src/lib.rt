@@ -7,7 +7,7 @@ use table::MBR;
 use table::MaybeChs;
 use table::MaybeSectors;
 ghost use mathlib.Core.Path.{_≡_};
-ghost use mathlib.Core.Option.{none, some};
+ghost use mathlib.Core.Option.{none};
 ghost use mathlib.Core.List.{map};
 ghost use Prim.Native.Nat.{_≤_};
 ghost use Rattle.base.specs.Said.{refusal};

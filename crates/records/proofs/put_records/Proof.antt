@@ -2,42 +2,85 @@ use Rattle.records.proofs.put_records.Statement.{statement}
 use Rattle.records.proofs.put_records.Tie as tie
 use Rattle.records.proofs.put_records.Reads as reads
 use Rattle.records.proofs.put_records.Lts as lts
-use Rattle.records.proofs.put_source.Reads as put-source-reads
-use lib.ListN.{length, length-map, take}
+use Rattle.entry.proofs.MBRPartitionEntry.empty.Reads as empty-reads
+use Rattle.links.proofs.link_to.Reads as link-to-reads
+use Rattle.records.proofs.put_ebr.Reads as put-ebr-reads
+use Rattle.records.proofs.put_kept.Reads as put-kept-reads
+use lib.ListN.{length, length-map, take, getD}
 use lib.Seq.{length-take-le, getD-take, take-all}
 use Prim.Native.Nat.{ℕ, _+_, _*_, _-_, _≤_, _<_}
 use mathlib.Core.Path.{_≡_, refl, sym, ap, subst, _∙_}
 use mathlib.Core.List.{List}
+use mathlib.Core.Logic.{inl, inr}
 use native.Mathlib.Omega.{arith}
 use Rattle.base.specs.Put.{put}
+use Rattle.extract.specs.Disk.{Store}
 use Rattle.plan.specs.declared.Slot.{Slot}
-use Rattle.plan.specs.Plan.{pieces, noSlot, Each}
-use Rattle.plan.proofs.Laws.{pieces-none, pieces-more, Wide}
+use Rattle.plan.specs.Plan.{pieces, noSlot}
+use Rattle.plan.proofs.Laws.{pieces-none, pieces-more, Wide, each-at}
+use Rattle.base.proofs.Put.{length-put}
+use Rattle.table.specs.declared.LogicalPartition.{LogicalPartition}
+use Rattle.table.specs.Table.{noLogical}
+use Rattle.records.specs.Records.{ebrStores}
 use Rattle.records.specs.Sources.{bytesFrom, firstOf, storesOf, Valid}
-use Rattle.records.proofs.Laws.{plan-wide, valid-at}
+use Rattle.records.proofs.Laws.{plan-wide, valid-at, link-none, link-some, kept-source, ebr-source, kept-bytes, ebr-bytes}
 use borrow.Author.Needs.{needs}
 
 abbrev Inv-loop : tie.InvT-loop
-Inv-loop out₀ at x n first t e m p k i₀ out i = (i ≤ k) × (length out ≡ length out₀) × (out ≡ put out₀ at (pieces (λ s. bytesFrom x (storesOf first e t m) (s .source)) (take i (take k (p .slots)))))
+Inv-loop out₀ at x n first e m p t k i₀ out i = (i ≤ k) × (length out ≡ length out₀) × (out ≡ put out₀ at (pieces (λ s. bytesFrom x (storesOf first e t m) (s .source)) (take i (take k (p .slots)))))
 
 abbrev μ-loop : tie.MeasureT-loop
-μ-loop out₀ at x n first t e m p k i₀ out i = k - i
+μ-loop out₀ at x n first e m p t k i₀ out i = k - i
 
-long : (c : lts.Start (put-source-reads.Asked, put-source-reads.Learnt) reads.Pre reads.Post Inv-loop μ-loop) → length (take (c .args .t5 .count) (c .args .t5 .slots)) ≡ c .args .t5 .count
-long c =
-    let n = sym (length-map (c .args .t5 .slots) _) ∙ c .good .1 .1 .1 .1 .0 .1 .1 .0 .1 .0 .1 in
-    length-take-le (c .args .t5 .count) (c .args .t5 .slots) (omega (arith, c .pre .1 .0))
+-- the loop's facts at the entry s: the slots, the logical partitions, and slot i
+module _ (s : tie.Start Inv-loop μ-loop) where
+  abbrev ts : List Slot
+  ts = take (s .args .t5 .count) (s .args .t5 .slots)
 
-many : (c : lts.Start (put-source-reads.Asked, put-source-reads.Learnt) reads.Pre reads.Post Inv-loop μ-loop) → length (firstOf (c .args .t) (c .args .m)) ≡ c .args .m
-many c =
-    let n = sym (length-map (c .args .t .«logical_partitions») _) ∙ c .good .1 .1 .1 .1 .1 .1 .0 .1 .1 .1 .1 .0 .1 .0 .1 in
-    length-take-le (c .args .m) (c .args .t .«logical_partitions») (omega (arith, c .pre .0 .0 .few))
+  abbrev ls : List LogicalPartition
+  ls = firstOf (s .args .t7) (s .args .m)
+
+  abbrev f : Slot → List ℕ
+  f q = bytesFrom (s .args .x .now) (storesOf (s .args .first .now) (s .args .e) (s .args .t7) (s .args .m)) (q .source)
+
+  long : length ts ≡ s .args .t5 .count
+  long =
+      let n = sym (length-map (s .args .t5 .slots) _) ∙ s .good .1 .1 .1 .1 .0 .1 .1 .0 .1 .0 .1 in
+      length-take-le (s .args .t5 .count) (s .args .t5 .slots) (omega (arith, s .pre .1 .0))
+
+  many : length ls ≡ s .args .m
+  many =
+      let n = sym (length-map (s .args .t7 .«logical_partitions») _) ∙ s .good .1 .1 .1 .1 .1 .1 .0 .1 .1 .1 .1 .0 .1 .0 .1 in
+      length-take-le (s .args .m) (s .args .t7 .«logical_partitions») (omega (arith, s .pre .0 .0 .few))
+
+  wide : Wide f 512 ts
+  wide = subst (Wide f 512) (sym (s .pre .0 .1)) (plan-wide (s .args .x .now) (s .args .n) (s .args .m) (s .args .first .now) (s .args .t7) (s .args .e) (s .pre .0 .0) (s .pre .0 .2))
+
+  -- the logical partition of a number
+  module _ (j : ℕ) (h : j < s .args .m) where
+    within : j < length ls
+    within = omega (arith, many)
+
+    at-number : getD ls j noLogical ≡ getD (s .args .t7 .«logical_partitions») j noLogical
+    at-number = getD-take (s .args .m) (s .args .t7 .«logical_partitions») j noLogical h
+
+  module _ (i : ℕ) (h : i < s .args .t5 .count) where
+    abbrev slot : Slot
+    slot = getD (s .args .t5 .slots) i noSlot
+
+    taken : getD ts i noSlot ≡ slot
+    taken = getD-take (s .args .t5 .count) (s .args .t5 .slots) i noSlot h
+
+    valid : Valid (s .args .n) (s .args .m) (slot .source)
+    valid = valid-at (s .args .x .now) (s .args .n) (s .args .m) (s .args .first .now) (s .args .t7) (s .args .e) (s .pre .0 .0) (s .pre .0 .2) many ts (s .pre .0 .1) i (omega (arith, long)) slot taken
+
+    one : 65 ≤ slot .source → slot .source - 65 < s .args .m
+    one k = ebr-source (s .args .x .now) (s .args .n) (s .args .m) (slot .source) (s .args .first .now) (s .pre .0 .0) valid k
 
 loop-holds : tie.Need-loop-holds Inv-loop μ-loop
 loop-holds c =
     let s = c .before .before .before in
-    let a = s .args in
-    (search needs, refl, pieces-none (λ q. bytesFrom (a .x .now) (storesOf (a .first .now) (a .e) (a .t) (a .m)) (q .source)) (a .out .now) (a .at) (take (a .t5 .count) (a .t5 .slots)))
+    (search needs, refl, pieces-none (f s) (s .args .out .now) (s .args .at) (ts s))
 
 mul-s : tie.Need-mul-s Inv-loop μ-loop
 mul-s c = search needs
@@ -45,23 +88,80 @@ mul-s c = search needs
 element-copy-out-s : tie.Need-element-copy-out-s Inv-loop μ-loop
 element-copy-out-s c = search needs
 
-mul-put-source : tie.Need-mul-put-source Inv-loop μ-loop
-mul-put-source c = search needs
+mul-to : tie.Need-mul-to Inv-loop μ-loop
+mul-to c = search needs
 
-add-put-source : tie.Need-add-put-source Inv-loop μ-loop
-add-put-source c = search needs
+add-to : tie.Need-add-to Inv-loop μ-loop
+add-to c = search needs
 
-put-source-requires : tie.Need-put-source-requires Inv-loop μ-loop
-put-source-requires c κs =
-    let s = c .before .before .before .before .before .before .before in
-    let a = s .args in
-    let l = c .before .before .before .loop in
-    let p = a .t5 in
-    let n = long s in
-    let h : l .i < p .count = search needs in
-    let g = getD-take (p .count) (p .slots) (l .i) noSlot h in
-    let v = valid-at (a .x .now) (a .n) (a .m) (a .first .now) (a .t) (a .e) (s .pre .0 .0) (s .pre .0 .2) (many s) (take (p .count) (p .slots)) (s .pre .0 .1) (l .i) (omega arith) _ g in
-    (s .pre .0 .0, v, omega (arith, l .inv .1, s .pre .1 .2))
+put-kept-requires : tie.Need-put-kept-requires Inv-loop μ-loop
+put-kept-requires c κs =
+    let s = c .before .before .before .before .before .before .before .before .before in
+    let l = c .before .before .before .before .before .loop in
+    let h : l .i < s .args .t5 .count = c .before .before .before .before .loop-test .taken in
+    (record { good = s .pre .0 .0 .good; number = s .pre .0 .0 .number; few = omega arith; long = s .pre .0 .0 .long }, kept-source (s .args .n) (s .args .m) _ (valid s (l .i) h) (c .before .if1 .taken), omega (arith, l .inv .1, s .pre .1 .2))
+
+mul-l : tie.Need-mul-l Inv-loop μ-loop
+mul-l c =
+    let s = c .before .before .before .before .before .before .before .before .before in
+    let l = c .before .before .before .before .before .loop in
+    let h : l .i < s .args .t5 .count = c .before .before .before .before .loop-test .taken in
+    omega (arith, one s (l .i) h (c .before .if1 .left), s .pre .0 .0 .few)
+
+element-copy-out-l : tie.Need-element-copy-out-l Inv-loop μ-loop
+element-copy-out-l c =
+    let s = c .before .before .before .before .before .before .before .before .before in
+    let l = c .before .before .before .before .before .loop in
+    let h : l .i < s .args .t5 .count = c .before .before .before .before .loop-test .taken in
+    omega (arith, one s (l .i) h (c .before .if1 .left), s .pre .0 .0 .few)
+
+add-if2 : tie.Need-add-if2 Inv-loop μ-loop
+add-if2 c =
+    let s = c .before .before .before .before .before .before .before .before .before .before in
+    let l = c .before .before .before .before .before .before .loop in
+    let h : l .i < s .args .t5 .count = c .before .before .before .before .before .loop-test .taken in
+    omega (arith, one s (l .i) h (c .before .before .if1 .left), s .pre .0 .0 .few)
+
+add-f : tie.Need-add-f Inv-loop μ-loop
+add-f c =
+    let s = c .before .before .before .before .before .before .before .before .before .before .before in
+    let l = c .before .before .before .before .before .before .before .loop in
+    let h : l .i < s .args .t5 .count = c .before .before .before .before .before .before .loop-test .taken in
+    omega (arith, one s (l .i) h (c .before .before .before .if1 .left), s .pre .0 .0 .few, c .if2 .taken)
+
+mul-f : tie.Need-mul-f Inv-loop μ-loop
+mul-f c =
+    let s = c .before .before .before .before .before .before .before .before .before .before .before in
+    let l = c .before .before .before .before .before .before .before .loop in
+    let h : l .i < s .args .t5 .count = c .before .before .before .before .before .before .loop-test .taken in
+    omega (arith, one s (l .i) h (c .before .before .before .if1 .left), s .pre .0 .0 .few, c .if2 .taken)
+
+element-copy-out-f : tie.Need-element-copy-out-f Inv-loop μ-loop
+element-copy-out-f c =
+    let s = c .before .before .before .before .before .before .before .before .before .before .before in
+    let l = c .before .before .before .before .before .before .before .loop in
+    let h : l .i < s .args .t5 .count = c .before .before .before .before .before .before .loop-test .taken in
+    omega (arith, one s (l .i) h (c .before .before .before .if1 .left), s .pre .0 .0 .few, c .if2 .taken)
+
+link-to-requires : tie.Need-link-to-requires Inv-loop μ-loop
+link-to-requires c κs = search needs
+
+put-ebr-requires : tie.Need-put-ebr-requires Inv-loop μ-loop
+put-ebr-requires c κs =
+    let s = c .before .before .before .before .before .before .before .before .before .before .before .before .before .before in
+    let l = c .before .before .before .before .before .before .before .before .before .before .loop in
+    let h : l .i < s .args .t5 .count = c .before .before .before .before .before .before .before .before .before .loop-test .taken in
+    omega (arith, l .inv .1, s .pre .1 .2)
+
+empty-requires : tie.Need-empty-requires Inv-loop μ-loop
+empty-requires c κs = search needs
+
+put-ebr-requires-2 : tie.Need-put-ebr-requires-2 Inv-loop μ-loop
+put-ebr-requires-2 c κs =
+    let s = c .before .before .before .before .before .before .before .before .before .before .before .before .before in
+    let l = c .before .before .before .before .before .before .before .before .before .loop in
+    let h : l .i < s .args .t5 .count = c .before .before .before .before .before .before .before .before .loop-test .taken in
+    omega (arith, l .inv .1, s .pre .1 .2)
 
 add-i : tie.Need-add-i Inv-loop μ-loop
 add-i c = search needs
@@ -69,19 +169,33 @@ add-i c = search needs
 loop-less : tie.Need-loop-less Inv-loop μ-loop
 loop-less c = search needs
 
+-- what a turn puts, whichever way it goes
+turn : (c : tie.Joined1 Inv-loop μ-loop) → (h : c .before .before .before .before .loop .i < c .before .before .before .before .before .before .before .before .args .t5 .count)
+    → c .if1 .out ≡ put (c .before .before .before .before .loop .out) (c .before .before .before .before .before .before .before .before .args .at + c .before .before .before .before .loop .i * 512) (f (c .before .before .before .before .before .before .before .before) (slot (c .before .before .before .before .before .before .before .before) (c .before .before .before .before .loop .i) h))
+turn c h =
+    let s = c .before .before .before .before .before .before .before .before in
+    let l = c .before .before .before .before .loop in
+    let a = s .args in
+    let q = slot s (l .i) h in
+    let first : Store = record { lba = 0; bytes = a .first .now } in
+    let there = put (l .out) (a .at + l .i * 512) in
+    let e = a .e in
+    elim (c .if1 .came) [
+      | inl w ↦ w .5 ∙ w .2 .ensures ∙ ap there (kept-bytes (a .x .now) first (ebrStores e (ls s)) (q .source) (w .0 .taken))
+      | inr (inl w) ↦ w .10 ∙ w .7 .ensures ∙ ap there (ebr-bytes (a .x .now) first e (ls s) (q .source) _ _ (w .0 .left) (within s _ (one s (l .i) h (w .0 .left))) (at-number s _ (one s (l .i) h (w .0 .left))) (w .6 .ensures ∙ link-some e (ls s) _ _ (within s _ (w .3 .taken)) (at-number s _ (w .3 .taken))))
+      | inr (inr w) ↦ w .9 ∙ w .6 .ensures ∙ ap there (ebr-bytes (a .x .now) first e (ls s) (q .source) _ _ (w .0 .left) (within s _ (one s (l .i) h (w .0 .left))) (at-number s _ (one s (l .i) h (w .0 .left))) (w .5 .ensures ∙ link-none e (ls s) (q .source - 65 + 1) (omega (arith, many s, w .3 .left))))
+    ]
+
 loop-again : tie.Need-loop-again Inv-loop μ-loop
 loop-again c =
-    let s = c .before .before .before .before .before .before .before .before .before .before in
-    let a = s .args in
-    let l = c .before .before .before .before .before .before .loop in
-    let p = a .t5 in
-    let n = long s in
-    let h : l .i < p .count = search needs in
-    let f : Slot → List ℕ = λ q. bytesFrom (a .x .now) (storesOf (a .first .now) (a .e) (a .t) (a .m)) (q .source) in
-    let w = subst (Wide f 512) (sym (s .pre .0 .1)) (plan-wide (a .x .now) (a .n) (a .m) (a .first .now) (a .t) (a .e) (s .pre .0 .0) (s .pre .0 .2)) in
-    let g = getD-take (p .count) (p .slots) (l .i) noSlot h in
-    let r = c .before .before .put-source .ensures ∙ ap (λ (q : Slot). put (l .out) (a .at + l .i * 512) (f q)) (sym g) in
-    (search needs, search needs, pieces-more f (a .out .now) (l .out) _ (a .at) 512 (l .i) (take (p .count) (p .slots)) noSlot w (omega arith) (omega (arith, s .pre .1 .2)) (l .inv .2) r)
+    let s = c .before .before .before .before .before .before .before .before in
+    let l = c .before .before .before .before .loop in
+    let h : l .i < s .args .t5 .count = c .before .before .before .loop-test .taken in
+    let t = turn c h in
+    let k : l .i < length (ts s) = omega (arith, long s) in
+    let w = each-at (λ q. length (f s q) ≡ 512) (ts s) (l .i) noSlot k (wide s) in
+    let r = t ∙ ap (λ (q : Slot). put (l .out) (s .args .at + l .i * 512) (f s q)) (sym (taken s (l .i) h)) in
+    (search needs, ap length r ∙ length-put (l .out) (s .args .at + l .i * 512) (f s (getD (ts s) (l .i) noSlot)) (omega (arith, l .inv .1, s .pre .1 .2)) ∙ l .inv .1, pieces-more (f s) (s .args .out .now) (l .out) _ (s .args .at) 512 (l .i) (ts s) noSlot (wide s) k (omega (arith, s .pre .1 .2)) (l .inv .2) r)
 
 same-length : tie.Need-same-length Inv-loop μ-loop
 same-length c = search needs
@@ -89,12 +203,9 @@ same-length c = search needs
 returns : tie.Need-returns Inv-loop μ-loop
 returns c =
     let s = c .before .before .before .before .before in
-    let a = s .args in
     let l = c .before .loop in
-    let p = a .t5 in
-    let f : Slot → List ℕ = λ q. bytesFrom (a .x .now) (storesOf (a .first .now) (a .e) (a .t) (a .m)) (q .source) in
-    let i : l .i ≡ p .count = omega (arith, l .inv .0, c .loop-test .left) in
-    l .inv .2 ∙ ap (λ (q : List Slot). put (a .out .now) (a .at) (pieces f q)) (ap (λ k. take k (take (p .count) (p .slots))) i ∙ take-all (p .count) (take (p .count) (p .slots)) (omega (arith, long s)))
+    let i : l .i ≡ s .args .t5 .count = omega (arith, l .inv .0, c .loop-test .left) in
+    l .inv .2 ∙ ap (λ (q : List Slot). put (s .args .out .now) (s .args .at) (pieces (f s) q)) (ap (λ k. take k (ts s)) i ∙ take-all (s .args .t5 .count) (ts s) (omega (arith, long s)))
 
 pub put-records-spec : {M : Type 1} → statement M
 put-records-spec =
@@ -105,9 +216,19 @@ put-records-spec =
     loop-holds
     mul-s
     element-copy-out-s
-    mul-put-source
-    add-put-source
-    put-source-requires
+    mul-to
+    add-to
+    put-kept-requires
+    mul-l
+    element-copy-out-l
+    add-if2
+    add-f
+    mul-f
+    element-copy-out-f
+    link-to-requires
+    put-ebr-requires
+    empty-requires
+    put-ebr-requires-2
     add-i
     loop-less
     loop-again

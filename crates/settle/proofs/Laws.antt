@@ -3,11 +3,12 @@ use mathlib.Core.Path.{_≡_, refl, sym, ap, _∙_}
 use mathlib.Core.List.{List, [], _∷_, _++_, map, map-append}
 use mathlib.Core.Bool.{Bool, true}
 use mathlib.Core.Option.{Option, none, some}
-use Prim.Native.Nat.{ℕ, zero, suc, _+_, _-_, _≤_, _<_}
+use Prim.Native.Nat.{ℕ, zero, suc, _+_, _≤_, _<_}
 use native.Mathlib.Numerals.{add-one}
+use native.Mathlib.Nat.{add-zero}
 use native.Mathlib.Omega.{arith}
 use lib.ListN.{length, take, drop, getD, set, length-map, take-append-drop}
-use lib.Seq.{take-suc, drop-cons, drop-length, drop-at, take-at, length-take-le, set-at, append-snoc}
+use lib.Seq.{take-suc, drop-cons, drop-length, drop-at, take-at, length-take-le, set-at, append-snoc, getD-drop}
 use Rattle.base.specs.Checks.{Check, first-fail}
 use Rattle.base.specs.Pick.{pick}
 use Rattle.base.proofs.Checks.{append-fails, append-holds, none-fails}
@@ -19,10 +20,14 @@ use Rattle.push.specs.Address.{complete, updateChecks}
 use Rattle.push.specs.Push.{geometryOf}
 use Rattle.settle.specs.Settle.{atStart, firstAt, byGeometry, allGeometry, settled, linked, rowChecks, allRows, relisted, settleChecks}
 
--- the first in its place
-pub first-none : (X n : ℕ) (l : List LogicalPartition) → n ≡ 0 → firstAt X (take n l) ++ drop n l ≡ l
-unfolding firstAt
-first-none X n l e = rw e
+-- no logical partition; the first in its place
+pub settled-none : (g : Geometry) (X n : ℕ) (l : List LogicalPartition) → n ≡ 0 → settled g X (take n l) ++ drop n l ≡ l
+unfolding settled firstAt
+settled-none g X n l e = rw e
+
+pub geometry-none : (g : Geometry) (X n : ℕ) (l : List LogicalPartition) → n ≡ 0 → first-fail (allGeometry g (firstAt X (take n l))) ≡ none
+unfolding allGeometry firstAt
+geometry-none g X n l e = rw e
 
 pub first-set : (X n : ℕ) (l : List LogicalPartition) → (n ≡ 0 → ⊥) → 0 < length l → set l 0 (atStart X (getD l 0 noLogical)) ≡ firstAt X (take n l) ++ drop n l
 unfolding firstAt
@@ -48,6 +53,14 @@ module _ {A : Type 0} (f : A → A) where
       ∙ sym (append-snoc (map f (take i l)) (f a) (drop (suc i) l))
       ∙ ap (λ k. k ++ drop (suc i) l) (sym p)
       ∙ ap (λ k. map f (take k l) ++ drop k l) (sym (add-one i))
+
+  pub mapped-at : (l m : List A) (i : ℕ) (d : A) → m ≡ map f (take i l) ++ drop i l → i < length l → getD m i d ≡ getD l i d
+  mapped-at l m i d e h =
+      let n : length (map f (take i l)) ≡ i = length-map (take i l) f ∙ length-take-le i l (omega arith) in
+      ap (λ k. getD k i d) e
+      ∙ ap (λ j. getD (map f (take i l) ++ drop i l) j d) (sym (add-zero i))
+      ∙ sym (getD-drop i (map f (take i l) ++ drop i l) 0 d)
+      ∙ ap (λ k. getD k 0 d) (drop-at (map f (take i l)) (drop i l) i n ∙ drop-cons l i d h)
 
 -- the refusals from number i on
 module _ {k : ℕ} where

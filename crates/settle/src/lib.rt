@@ -8,13 +8,12 @@ use table::MaybeChs;
 use table::MaybeSectors;
 ghost use mathlib.Core.Path.{_≡_};
 ghost use mathlib.Core.Option.{none};
-ghost use mathlib.Core.List.{map};
 ghost use Prim.Native.Nat.{_≤_};
 ghost use Rattle.base.specs.Said.{refusal};
 ghost use Rattle.base.specs.Checks.{first-fail};
 ghost use Rattle.table.specs.Table.{logicals};
 ghost use Rattle.push.specs.Push.{geometryOf};
-ghost use Rattle.settle.specs.Settle.{atStart, firstAt, byGeometry, allGeometry, settled, linkThere, rowChecks, allRows, relisted, settleChecks};
+ghost use Rattle.settle.specs.Settle.{atStart, firstAt, allGeometry, settled, linkThere, rowChecks, allRows, relisted, settleChecks};
 
 // A table, and what the call says beside it.
 pub struct Settled {
@@ -39,26 +38,11 @@ fn at_start(x: u32, l: LogicalPartition) -> LogicalPartition
     }
 }
 
-// The table whose first logical partition's EBR is there.
-fn first_place(t: MBR, x: u32) -> MBR
+// The table with the first EBR at x, and the addresses of each logical partition, if its geometry is complete.
+fn addresses(t: MBR, x: u32) -> Settled
     requires { ⌜ t .count ≤ 24 ⌝ }
-    ensures { λ r. ⌜ r ≡ relisted t (firstAt x (logicals t)) ⌝ }
-{
-    if t.count == 0 {
-        return t;
-    }
-    let l = t.logical_partitions[0];
-    let f = at_start(x, l);
-    let mut u = t;
-    u.logical_partitions[0] = f;
-    u
-}
-
-// The table with the addresses of each logical partition, if its geometry is complete.
-fn addresses(t: MBR) -> Settled
-    requires { ⌜ t .count ≤ 24 ⌝ }
-    ensures { λ r. ⌜ refusal (r .answer) ≡ first-fail (allGeometry (geometryOf t) (logicals t)) ⌝ }
-    ensures { λ r. ⌜ (refusal (r .answer) ≡ none → r .table ≡ relisted t (map (byGeometry (geometryOf t)) (logicals t))) ⌝ }
+    ensures { λ r. ⌜ refusal (r .answer) ≡ first-fail (allGeometry (geometryOf t) (firstAt x (logicals t))) ⌝ }
+    ensures { λ r. ⌜ (refusal (r .answer) ≡ none → r .table ≡ relisted t (settled (geometryOf t) x (logicals t))) ⌝ }
 {
     let g = Geometry {
         cylinders: t.cylinders,
@@ -67,14 +51,22 @@ fn addresses(t: MBR) -> Settled
     };
     let n = t.count;
     let mut u = t;
+    if n == 0 {
+        return Settled {
+            answer: Answer::Done,
+            table: u,
+        };
+    }
+    let f = u.logical_partitions[0];
+    u.logical_partitions[0] = at_start(x, f);
     for i in 0..n {
-        let l = t.logical_partitions[i];
+        let l = u.logical_partitions[i];
         let v = push::with_geometry(g, l);
         let a = v.answer;
         if let Answer::Refused(k) = a {
             return Settled {
                 answer: Answer::Refused(k),
-                table: t,
+                table: u,
             };
         }
         let m = v.logical;
@@ -147,8 +139,7 @@ pub fn settle(t: MBR, x: u32, d: u32) -> Settled
     ensures { λ r. ⌜ refusal (r .answer) ≡ first-fail (settleChecks (geometryOf t) x d (logicals t)) ⌝ }
     ensures { λ r. ⌜ (refusal (r .answer) ≡ none → r .table ≡ relisted t (settled (geometryOf t) x (logicals t))) ⌝ }
 {
-    let u = first_place(t, x);
-    let v = addresses(u);
+    let v = addresses(t, x);
     let a = v.answer;
     match a {
         Answer::Refused(k) => v,

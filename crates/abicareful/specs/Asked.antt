@@ -1,6 +1,6 @@
 -- What a push asks for, from the numbers of a call. Assumes nothing.
 use Prim.Native.Nat.{ℕ}
-use Rattle.push.specs.declared.Request.{Request}
+use Rattle.request.specs.declared.Request.{Request}
 
 -- alignment, geometry (cylinders, heads, sectors on a track), type, start, sectors
 abbrev pub asked : ℕ → ℕ → ℕ → ℕ → ℕ → ℕ → ℕ → Request

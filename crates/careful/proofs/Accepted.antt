@@ -19,7 +19,7 @@ use Rattle.table.specs.declared.LogicalPartition.{LogicalPartition}
 use Rattle.table.specs.Table.{most}
 use Rattle.chain.specs.Chain.{firstLink}
 use Rattle.chain.specs.Facts.{seen, at, linkIn, Holds}
-use Rattle.push.specs.declared.Request.{Request}
+use Rattle.request.specs.declared.Request.{Request}
 use Rattle.push.specs.Push.{placeOf, sizeOf, laterThan, newLogical, roundChecks, placeChecks, endChecks, geometryChecks, pushChecks, pushed}
 use Rattle.sound.specs.Sound.{Contents, extendedIn, areaEnd, end, Sound, soundb}
 use Rattle.sound.proofs.Test.{is-sound}

@@ -18,7 +18,7 @@ use Rattle.extract.specs.Answers.{headerOf, checkSays}
 use Rattle.read.specs.Read.{Table, read, readSays}
 use Rattle.sound.specs.Is.{All}
 use Rattle.sound.specs.Sound.{Contents}
-use Rattle.push.specs.declared.Request.{Request}
+use Rattle.request.specs.declared.Request.{Request}
 use Rattle.careful.specs.Careful.{contents, Change, pushRefusals, pushChange, removeRefusals, removeChange, cratePush, crateRemove, carefulPush, carefulRemove, carefulPushSays, carefulRemoveSays}
 use Rattle.careful.specs.Demand3.{Safe, Careful, Whole, Demand3}
 use Rattle.careful.specs.Output.{storeBytes, storesBytes, storesIn, outAfter, countOf, counted}

@@ -18,7 +18,7 @@ use Rattle.table.specs.declared.MBR.{MBR}
 use Rattle.table.specs.Table.{most, logicals, emptySlot, slots}
 use Rattle.chain.specs.Facts.{View, Holds, seen}
 use Rattle.read.specs.Read.{Table, tableOf}
-use Rattle.push.specs.declared.Request.{Request}
+use Rattle.request.specs.declared.Request.{Request}
 use Rattle.push.specs.Push.{isSome, orNone, laterThan, roundChecks, placeChecks, endChecks, geometryChecks, pushChecks, pushed, tableChecks, pushedTo, pushTable}
 use Rattle.lookup.specs.Remove.{without, removedTable}
 use Rattle.lookup.proofs.Laws.{without-logicals}

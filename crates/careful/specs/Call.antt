@@ -7,7 +7,7 @@ use Rattle.base.specs.Said.{Said, gives, refuses}
 use Rattle.base.specs.Checks.{Check, AllHold, FirstFail}
 use Rattle.extract.specs.Extract.{diskOf}
 use Rattle.read.specs.Read.{Table, readSays}
-use Rattle.push.specs.declared.Request.{Request}
+use Rattle.request.specs.declared.Request.{Request}
 use Rattle.sound.specs.Sound.{Contents}
 use Rattle.careful.specs.Careful.{contents, Change, pushRefusals, pushChange, removeRefusals, removeChange, cratePush, crateRemove, inFirstPlace, carefulPushSays, carefulRemoveSays}
 use Rattle.careful.specs.Demand3.{Safe, Asked}

@@ -16,8 +16,8 @@ use Rattle.table.specs.declared.LogicalPartition.{LogicalPartition}
 use Rattle.table.specs.declared.MBR.{MBR}
 use Rattle.read.specs.Read.{Table, read, tableOf}
 use Rattle.lookup.specs.Remove.{removedTable}
-use Rattle.push.specs.declared.Geometry.{Geometry}
-use Rattle.push.specs.declared.Request.{Request}
+use Rattle.address.specs.declared.Geometry.{Geometry}
+use Rattle.request.specs.declared.Request.{Request}
 use Rattle.push.specs.Push.{placeOf, sizeOf, laterThan, newLogical, pushChecks, pushed, pushTable}
 use Rattle.sound.specs.Sound.{Contents, contentsOf, extendedIn, areaEnd, end, soundb}
 use Rattle.careful.specs.Stores.{firstPlace, leftOut, lastOf, pushStores, removeStore}

@@ -13,7 +13,7 @@ use Rattle.extract.specs.Disk.{Disk, Store, after}
 use Rattle.extract.specs.Extract.{extractChecks, mostRecords, diskOf}
 use Rattle.layover.specs.Layover.{newRecords, newExtract}
 use Rattle.read.specs.Read.{Table, read}
-use Rattle.push.specs.declared.Request.{Request}
+use Rattle.request.specs.declared.Request.{Request}
 use Rattle.sound.specs.Is.{All}
 use Rattle.sound.specs.Sound.{Contents, primariesOf, Used, Extended, Sound}
 use Rattle.careful.specs.Careful.{contents, Change, pushRefusals, pushChange, removeRefusals, removeChange, cratePush, crateRemove, inFirstPlace, carefulPush, carefulRemove, carefulPushSays, carefulRemoveSays}

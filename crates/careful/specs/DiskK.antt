@@ -10,7 +10,7 @@ use Rattle.entry.specs.declared.MBRPartitionEntry.{MBRPartitionEntry}
 use Rattle.entry.specs.Entry.{entryBytes, noEntry}
 use Rattle.ebr.specs.Ebr.{noKept, ebrBytes}
 use Rattle.extract.specs.Disk.{Disk}
-use Rattle.push.specs.declared.Request.{Request}
+use Rattle.request.specs.declared.Request.{Request}
 use Rattle.careful.specs.Careful.{Change, roomNeeded, carefulPush}
 
 -- an entry without flag and addresses: type, start, sectors

@@ -28,7 +28,7 @@ use Rattle.table.specs.declared.LogicalPartition.{LogicalPartition}
 use Rattle.table.specs.declared.MBR.{MBR}
 use Rattle.chain.specs.Facts.{at}
 use Rattle.read.specs.Read.{Table, read, readSays, tableOf, tableFor}
-use Rattle.push.specs.declared.Request.{Request}
+use Rattle.request.specs.declared.Request.{Request}
 use Rattle.push.specs.Push.{placeOf, sizeOf, fresh, newLogical, laterThan, roundChecks, placeChecks, pushChecks}
 use Rattle.push.specs.Address.{complete, addressed}
 use Rattle.push.proofs.Steps.{and-answer}

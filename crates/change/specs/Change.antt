@@ -16,7 +16,7 @@ use Rattle.extract.specs.Disk.{Store}
 use Rattle.table.specs.declared.LogicalPartition.{LogicalPartition}
 use Rattle.table.specs.Table.{emptySlot}
 use Rattle.chain.specs.Facts.{at, leads}
-use Rattle.push.specs.declared.Request.{Request}
+use Rattle.request.specs.declared.Request.{Request}
 use Rattle.push.specs.Push.{placeOf, sizeOf, pushChecks}
 use Rattle.sound.specs.Sound.{end}
 use Rattle.links.specs.Links.{linkEntry, ebrWith, write}

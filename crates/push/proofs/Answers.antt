@@ -1,21 +1,14 @@
 -- What an answer says determines it. Assumes nothing.
-use mathlib.Core.Path.{_≡_, refl, ap}
-use mathlib.Core.Bool.{Bool}
+use mathlib.Core.Path.{_≡_, ap}
 use Prim.Native.Nat.{ℕ}
 use native.Mathlib.Omega.{arith}
-use Rattle.table.specs.declared.MaybeChs.{MaybeChs}
-use Rattle.push.specs.declared.Place.{Place}
 use Rattle.push.specs.declared.Complete.{Complete}
 use Rattle.push.specs.declared.Complete.the-variants as complete
 use Rattle.push.specs.declared.Size.{Size}
 use Rattle.push.specs.declared.Size.the-variants as size
-use Rattle.push.specs.declared.Linked.{Linked}
-use Rattle.push.specs.declared.Linked.the-variants as linked
-use Rattle.push.specs.declared.Rounded.{Rounded}
-use Rattle.push.specs.declared.Rounded.the-variants as rounded
 use Rattle.push.specs.declared.PushAnswer.{PushAnswer}
 use Rattle.push.specs.declared.PushAnswer.the-variants as push
-use Rattle.push.specs.Answers.{completeSaid, sizeSaid, linkedSaid, roundedSaid, pushSaid}
+use Rattle.push.specs.Answers.{completeSaid, sizeSaid, pushSaid}
 
 pub complete-injective : (a b : Complete) → completeSaid a ≡ completeSaid b → a ≡ b
 complete-injective (complete.Is x) (complete.Is y) h =
@@ -36,26 +29,6 @@ size-injective (size.Refused k) (size.Is y) h = let w : _≡_ {A = ℕ} 0 1 = cc
 size-injective (size.Refused k) (size.Refused j) h =
     let q : k ≡ j = cc in
     ap size.Refused q
-
-pub linked-injective : (a b : Linked) → linkedSaid a ≡ linkedSaid b → a ≡ b
-linked-injective (linked.At x) (linked.At y) h =
-    let q : x ≡ y = cc in
-    ap linked.At q
-linked-injective (linked.At x) (linked.Refused k) h = let w : _≡_ {A = ℕ} 0 1 = cc in absurd (omega arith)
-linked-injective (linked.Refused k) (linked.At y) h = let w : _≡_ {A = ℕ} 0 1 = cc in absurd (omega arith)
-linked-injective (linked.Refused k) (linked.Refused j) h =
-    let q : k ≡ j = cc in
-    ap linked.Refused q
-
-pub rounded-injective : (a b : Rounded) → roundedSaid a ≡ roundedSaid b → a ≡ b
-rounded-injective (rounded.At x) (rounded.At y) h =
-    let q : x ≡ y = cc in
-    ap rounded.At q
-rounded-injective (rounded.At x) (rounded.Refused k) h = let w : _≡_ {A = ℕ} 0 1 = cc in absurd (omega arith)
-rounded-injective (rounded.Refused k) (rounded.At y) h = let w : _≡_ {A = ℕ} 0 1 = cc in absurd (omega arith)
-rounded-injective (rounded.Refused k) (rounded.Refused j) h =
-    let q : k ≡ j = cc in
-    ap rounded.Refused q
 
 pub push-injective : (a b : PushAnswer) → pushSaid a ≡ pushSaid b → a ≡ b
 push-injective (push.Number x) (push.Number y) h =

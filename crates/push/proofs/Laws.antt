@@ -1,18 +1,14 @@
 -- Laws of push and update_chs: the table's list after a push; the addresses one by one. Assumes nothing.
-use mathlib.Core.Path.{_≡_, refl}
+use mathlib.Core.Path.{_≡_}
 use Prim.Native.Nat.{_<_}
 use native.Mathlib.Numerals.{add-one}
 use native.Mathlib.Omega.{arith}
 use lib.ListN.{length}
 use lib.Seq.{take-suc-set, length-take-le}
-use Rattle.base.specs.Said.{refuses}
-use Rattle.base.specs.Checks.{checked, answer}
-use Rattle.table.specs.declared.LogicalPartition.{LogicalPartition}
 use Rattle.table.specs.declared.MBR.{MBR}
 use Rattle.table.specs.Table.{logicals}
-use Rattle.push.specs.declared.Geometry.{Geometry}
-use Rattle.push.specs.Address.{addressChecks, lastChecks, linkChecks, updateChecks, addressed, updateChs}
-use Rattle.push.specs.Push.{Request, newLogical, laterThan, pushed, pushedTo}
+use Rattle.push.specs.Push.{Request, newLogical, pushed, pushedTo}
+use Rattle.request.specs.Asked.{laterThan}
 
 -- the table's list is the list pushed to
 pub logicals-pushed : (t : MBR) (q : Request) → t .count < length (t .«logical_partitions») → logicals (pushedTo t q) ≡ pushed q (logicals t)
@@ -20,12 +16,3 @@ unfolding pushedTo pushed
 logicals-pushed t q h =
     let n : length (logicals t) ≡ t .count = length-take-le (t .count) (t .«logical_partitions») (omega arith) in
     rw (n, add-one (t .count)) (take-suc-set (t .«logical_partitions») (t .count) (newLogical (laterThan (t .count)) q) h)
-
--- update_chs, address by address
-pub update-steps : (g : Geometry) (l : LogicalPartition) → updateChs g l
-    ≡ checked (addressChecks g (l .partition .«starting_lba»)) refuses
-    (checked (lastChecks g (l .partition .«starting_lba») (l .partition .sectors)) refuses
-    (checked (addressChecks g (l .«absolute_ebr_lba» .0)) refuses
-    (answer (linkChecks g (l .«absolute_ebr_lba» .0) (l .«ebr_sectors»)) (addressed g l))))
-unfolding updateChs updateChecks
-update-steps g l = refl

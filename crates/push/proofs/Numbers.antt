@@ -6,9 +6,10 @@ use Prim.Native.Nat.{ℕ}
 use Rattle.base.specs.Checks.{first-fail}
 use Rattle.chs.specs.Chs.{noChs}
 use Rattle.entry.specs.declared.MBRPartitionEntry.{MBRPartitionEntry}
-use Rattle.push.specs.declared.Geometry.{Geometry}
-use Rattle.push.specs.Address.{complete, updateChecks}
-use Rattle.push.specs.Push.{rounded, fresh, roundChecks, placeChecks, endChecks, geometryChecks, pushChecks}
+use Rattle.address.specs.declared.Geometry.{Geometry}
+use Rattle.address.specs.Address.{complete, updateChecks}
+use Rattle.request.specs.Asked.{rounded, roundChecks, placeChecks, endChecks}
+use Rattle.push.specs.Push.{fresh, geometryChecks, pushChecks}
 
 entry : ℕ → ℕ → MBRPartitionEntry
 entry s n = record { boot = 0; «first_chs» = noChs; sys = 5; «last_chs» = noChs; «starting_lba» = s; sectors = n }

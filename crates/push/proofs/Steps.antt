@@ -1,83 +1,24 @@
 -- The steps of push and update_chs, as the code takes them. Assumes nothing.
-use mathlib.Core.Path.{_≡_, refl, ap, sym, _∙_}
-use mathlib.Core.Bool.{Bool, true, false}
+use mathlib.Core.Path.{_≡_, ap, sym, _∙_}
+use mathlib.Core.Bool.{true, false}
 use mathlib.Core.Option.{Option, none, some}
 use mathlib.Core.List.{List, [], _∷_, _++_, append-assoc}
-use Prim.Native.Nat.{ℕ, _+_, _*_, _-_, _/_, _≤_, _<_, _^_}
+use Prim.Native.Nat.{ℕ, _+_, _*_, _≤_, _<_, _^_}
 use native.Mathlib.Omega.{arith}
-use native.Mathlib.Nat.{div-le-self, mul-le-mul, lt-of-le-of-lt, pos-of-ne-zero}
-use lib.Dec.{ltb, leb, lit<}
+use lib.Dec.{ltb}
 use lib.ListN.{set}
 use borrow.Author.Tests.{ltb-true, leb-true, lt-ltb, le-ltb, le-leb}
-use Rattle.base.specs.Pick.{pick}
-use Rattle.base.specs.Said.{Said, gives, refuses, andThen, failure, valueOr}
-use Rattle.base.specs.Checks.{Check, _!_, checked, answer, first-fail}
+use Rattle.base.specs.Said.{gives, refuses}
+use Rattle.base.specs.Checks.{Check, _!_, answer, first-fail}
 use Rattle.base.proofs.Checks.{append-fails, append-holds, none-fails, checked-some, checked-none, answer-gives}
-use Rattle.chs.specs.declared.CHS.{CHS}
-use Rattle.chs.specs.Chs.{exact}
 use Rattle.entry.specs.declared.MBRPartitionEntry.{MBRPartitionEntry}
-use Rattle.table.specs.declared.MaybeChs.{MaybeChs}
-use Rattle.table.specs.declared.LogicalPartition.{LogicalPartition}
 use Rattle.table.specs.declared.MBR.{MBR}
 use Rattle.table.specs.Table.{most, extendedIn, withLogicals}
-use Rattle.push.specs.declared.Geometry.{Geometry}
-use Rattle.push.specs.declared.Place.{Place}
-use Rattle.push.specs.Address.{fits, addressChecks, lastChecks, linkChecks, addressIn, linkAddress, addressed, updateChecks, updateChs}
-use Rattle.push.specs.Push.{Request, placeOf, sizeOf, roundChecks, placeChecks, endChecks, geometryChecks, pushChecks, tableChecks, laterThan, newLogical, requestOf, pushSays, pushTable, pushedTo}
-use Rattle.push.specs.Answers.{settled, withAddresses, atPlace}
-use Rattle.push.proofs.Laws.{update-steps}
-
--- a value that checks give, and what goes on with it
-pub and-answer : {A B : Type 0} (cs : List Check) (a : A) (f : A → Said B) → andThen (answer cs a) f ≡ checked cs refuses (f a)
-and-answer [] a f = refl
-and-answer (c ∷ cs) a f = go (c .holds) (and-answer cs a f)
-  where
-    go : (b : Bool) → andThen (answer cs a) f ≡ checked cs refuses (f a)
-        → andThen (pick b (answer cs a) (refuses (c .number))) f ≡ pick b (checked cs refuses (f a)) (refuses (c .number))
-    go true ih = ih
-    go false ih = refl
-
--- update_chs is its four addresses, one after the other
-module _ (g : Geometry) (l : LogicalPartition) where
-  abbrev start : ℕ
-  start = l .partition .«starting_lba»
-
-  abbrev size : ℕ
-  size = l .partition .sectors
-
-  abbrev place : ℕ
-  place = l .«absolute_ebr_lba» .0
-
-  abbrev first : Said CHS
-  first = exact start (g .cylinders) (g .heads) (g .sectors)
-
-  abbrev last : Said CHS
-  last = answer (lastChecks g start size) (addressIn g (start + size - 1))
-
-  abbrev link : Said CHS
-  link = exact place (g .cylinders) (g .heads) (g .sectors)
-
-  abbrev end : Said MaybeChs
-  end = answer (linkChecks g place (l .«ebr_sectors»)) (linkAddress g place (l .«ebr_sectors»))
-
-  abbrev with : CHS → CHS → CHS → MaybeChs → LogicalPartition
-  with = withAddresses l
-
-  pub update-settled : updateChs g l ≡ settled l first last link end
-  unfolding addressed
-  update-settled =
-      update-steps g l
-      ∙ sym
-      (and-answer (addressChecks g start) (addressIn g start) (λ a. andThen last (λ b. andThen link (λ c. andThen end (λ d. gives (with a b c d)))))
-      ∙ ap (checked (addressChecks g start) refuses)
-      (and-answer (lastChecks g start size) (addressIn g (start + size - 1)) (λ b. andThen link (λ c. andThen end (λ d. gives (with (addressIn g start) b c d))))
-      ∙ ap (checked (lastChecks g start size) refuses)
-      (and-answer (addressChecks g place) (addressIn g place) (λ c. andThen end (λ d. gives (with (addressIn g start) (addressIn g (start + size - 1)) c d)))
-      ∙ ap (checked (addressChecks g place) refuses)
-      (and-answer
-      (linkChecks g place (l .«ebr_sectors»))
-      (linkAddress g place (l .«ebr_sectors»))
-      (λ d. gives (with (addressIn g start) (addressIn g (start + size - 1)) (addressIn g place) d))))))
+use Rattle.request.specs.declared.Place.{Place}
+use Rattle.push.specs.Push.{Request, geometryChecks, pushChecks, tableChecks, newLogical, requestOf, pushSays, pushTable, pushedTo}
+use Rattle.request.specs.Asked.{placeOf, sizeOf, roundChecks, placeChecks, endChecks, laterThan}
+use Rattle.request.specs.Answers.{atPlace}
+pub use Rattle.address.proofs.Steps.{and-answer, is-zero, not-zero}
 
 -- push's refusals, part by part
 fail-left : (cs ds : List Check) (k : ℕ) → first-fail cs ≡ some k → first-fail (cs ++ ds) ≡ some k
@@ -148,13 +89,6 @@ module _ (q : Request) (n : ℕ) where
       let g : ltb n 24 ≡ true = lt-ltb n 24 h in
       fail-right a ((6 ! ltb n most) ∷ []) f ∙ rw g
 
--- a test against 0
-pub is-zero : (n : ℕ) → n ≡ 0 → ltb 0 n ≡ false
-is-zero n e = le-ltb 0 n (omega arith)
-
-pub not-zero : (n : ℕ) → (n ≡ 0 → ⊥) → ltb 0 n ≡ true
-not-zero n e = lt-ltb 0 n (pos-of-ne-zero e)
-
 -- what rounding gives
 pub rounds : (q : Request) (p : Place) → answer (roundChecks q) (atPlace (placeOf q) (sizeOf q)) ≡ gives p
     → (first-fail (roundChecks q) ≡ none) × (p .at ≡ placeOf q) × (p .size ≡ sizeOf q)
@@ -162,37 +96,8 @@ rounds q p h =
     let g = answer-gives (roundChecks q) (atPlace (placeOf q) (sizeOf q)) p h in
     (g .0, sym (ap (λ (x : Place). x .at) (g .1)), sym (ap (λ (x : Place). x .size) (g .1)))
 
--- what update_chs says
-pub update-failure : (g : Geometry) (l : LogicalPartition) → failure (updateChs g l) ≡ first-fail (updateChecks g l)
-unfolding updateChs
-update-failure g l = failed (updateChecks g l) (addressed g l)
-  where
-    failed : {A : Type 0} (cs : List Check) (a : A) → failure (answer cs a) ≡ first-fail cs
-    failed [] a = refl
-    failed (c ∷ cs) a = go (c .holds) (failed cs a)
-      where
-        go : (b : Bool) → failure (answer cs a) ≡ first-fail cs → failure (pick b (answer cs a) (refuses (c .number))) ≡ pick b (first-fail cs) (some (c .number))
-        go true ih = ih
-        go false ih = refl
-
-pub update-gives : (g : Geometry) (l : LogicalPartition) → first-fail (updateChecks g l) ≡ none → valueOr l (updateChs g l) ≡ addressed g l
-unfolding updateChs
-update-gives g l h = ap (valueOr l) (checked-none (updateChecks g l) refuses (gives (addressed g l)) h)
-
 pub none-some : {o : Option ℕ} {k : ℕ} {A : Type 0} → o ≡ some k → o ≡ none → A
 none-some e f = let w : _≡_ {A = ℕ} 0 1 = cc in absurd (omega arith)
-
--- sizes of rounding
-pub round-small : (a n : ℕ) → a < 2 ^ 32 → 0 < n → n < 2 ^ 32 → (n - 1) / a + 1 < 2 ^ 32
-round-small a n p q r =
-    let h : (n - 1) / a ≤ n - 1 = div-le-self (n - 1) a in
-    omega arith
-
-pub round-fits : (a n : ℕ) → a < 2 ^ 32 → 0 < n → n < 2 ^ 32 → ((n - 1) / a + 1) * a < 2 ^ 64
-round-fits a n p q r =
-    let x : (n - 1) / a + 1 ≤ 4294967295 = omega (arith, round-small a n p q r) in
-    let y : a ≤ 4294967295 = omega arith in
-    lt-of-le-of-lt (mul-le-mul x y) (lit< tt)
 
 -- push on a table whose extended entry is e
 module _ (t : MBR) (sys start sectors : ℕ) (h : t .count ≤ 24) where

@@ -20,7 +20,7 @@ use Rattle.table.specs.declared.LogicalPartition.{LogicalPartition}
 use Rattle.table.specs.declared.MBR.{MBR}
 use Rattle.table.specs.Table.{most, logicals, extendedIn}
 use Rattle.chain.specs.Facts.{at}
-use Rattle.push.specs.declared.Geometry.{Geometry}
+use Rattle.address.specs.declared.Geometry.{Geometry}
 use Rattle.push.specs.Address.{complete}
 use Rattle.push.specs.Push.{geometryOf}
 use Rattle.settle.specs.Settle.{atStart, firstAt, allGeometry, settled, settleChecks, allRows}

@@ -25,7 +25,7 @@ use Rattle.table.specs.declared.MBR.{MBR}
 use Rattle.table.specs.Table.{logicals}
 use Rattle.align.specs.Align.{usedStarts, largest, alignment}
 use Rattle.plan.specs.Plan.{Each}
-use Rattle.push.specs.declared.Geometry.{Geometry}
+use Rattle.address.specs.declared.Geometry.{Geometry}
 use Rattle.push.specs.Address.{complete}
 use Rattle.settle.specs.Settle.{byGeometry, linkThere, linked, rowChecks, allRows}
 use Rattle.write.proofs.Ranges.{InByte, HeaderIn, ChsIn, LogicalIn, TableIn}

@@ -27,7 +27,7 @@ use Rattle.read.specs.Read.{Table, headerOn, tableOf}
 use Rattle.read.proofs.Facts.{header→facts}
 use Rattle.lookup.specs.Remove.{removedTable}
 use Rattle.plan.specs.Plan.{Each}
-use Rattle.push.specs.declared.Geometry.{Geometry}
+use Rattle.address.specs.declared.Geometry.{Geometry}
 use Rattle.push.specs.Push.{geometryOf}
 use Rattle.settle.specs.Settle.{firstAt, settled}
 use Rattle.write.specs.Write.{headerStore, ebrStores, chainStores, tableStores}

@@ -15,7 +15,7 @@ use Rattle.base.proofs.Checks.{append-fails, append-holds, none-fails}
 use Rattle.table.specs.declared.LogicalPartition.{LogicalPartition}
 use Rattle.table.specs.declared.MBR.{MBR}
 use Rattle.table.specs.Table.{noLogical, withLogicals, logicals}
-use Rattle.push.specs.declared.Geometry.{Geometry}
+use Rattle.address.specs.declared.Geometry.{Geometry}
 use Rattle.push.specs.Address.{complete, updateChecks}
 use Rattle.push.specs.Push.{geometryOf}
 use Rattle.settle.specs.Settle.{atStart, firstAt, byGeometry, allGeometry, settled, linked, rowChecks, allRows, relisted, settleChecks}

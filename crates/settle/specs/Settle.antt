@@ -17,7 +17,7 @@ use Rattle.table.specs.declared.LogicalPartition.{LogicalPartition}
 use Rattle.table.specs.declared.MBR.{MBR}
 use Rattle.table.specs.Table.{withLogicals}
 use Rattle.chain.specs.Facts.{at}
-use Rattle.push.specs.declared.Geometry.{Geometry}
+use Rattle.address.specs.declared.Geometry.{Geometry}
 use Rattle.push.specs.Address.{complete, updateChecks, addressed}
 
 -- the EBR at X, without link sectors and last link CHS

@@ -31,7 +31,7 @@ use Rattle.table.specs.declared.LogicalPartition.{LogicalPartition}
 use Rattle.table.specs.declared.MBR.{MBR}
 use Rattle.table.specs.Table.{logicals, extendedIn}
 use Rattle.chs.proofs.Small.{head-fits}
-use Rattle.push.specs.declared.Geometry.{Geometry}
+use Rattle.address.specs.declared.Geometry.{Geometry}
 use Rattle.push.specs.Address.{complete, addressIn, updateChecks, linkAddress, addressed}
 use Rattle.push.specs.Push.{geometryOf}
 use Rattle.chain.specs.Facts.{at, bodyOf, linkIn, leads}

@@ -13,7 +13,7 @@ use Rattle.extract.specs.Extract.{diskSectors, records, mostRecords, extractChe
 use Rattle.table.specs.declared.LogicalPartition.{LogicalPartition}
 use Rattle.table.specs.declared.MBR.{MBR}
 use Rattle.table.specs.Table.{most, logicals, extendedIn}
-use Rattle.push.specs.declared.Geometry.{Geometry}
+use Rattle.address.specs.declared.Geometry.{Geometry}
 use Rattle.push.specs.Push.{geometryOf}
 use Rattle.settle.specs.Settle.{settled, settleChecks, relisted}
 unfoldable pub use Rattle.records.specs.Records.{ebrStores, laidAll, extractOver}

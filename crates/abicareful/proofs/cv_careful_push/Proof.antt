@@ -1,7 +1,7 @@
 use mathlib.Core.Path.{ap, _∙_}
 use lib.ListN.{length}
 use Rattle.abi.specs.Packed.{packed}
-use Rattle.push.specs.declared.Request.{Request}
+use Rattle.request.specs.declared.Request.{Request}
 use Rattle.careful.specs.Careful.{carefulPushSays}
 use Rattle.careful.specs.Output.{outAfter, counted}
 use borrow.Author.Needs.{needs}

@@ -1,4 +1,4 @@
-use Rattle.push.proofs.Steps.{is-zero, not-zero}
+use Rattle.address.proofs.Steps.{is-zero, not-zero}
 use borrow.Author.Tests.{lt-ltb, le-ltb, lt-leb, le-leb, not-true, not-false}
 use Rattle.push.proofs.link_sectors.Statement.{statement}
 use Rattle.push.proofs.link_sectors.Tie as tie

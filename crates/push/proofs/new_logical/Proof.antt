@@ -1,8 +1,8 @@
 use native.Mathlib.Omega.{arith}
-use Rattle.push.specs.Push.{roundChecks}
+use Rattle.request.specs.Asked.{roundChecks}
 use Rattle.base.proofs.Checks.{answer-refuses}
 use Rattle.base.specs.Said.{refusal}
-use Rattle.push.specs.Answers.{roundedSaid}
+use Rattle.request.specs.Answers.{roundedSaid}
 use Rattle.push.proofs.Steps.{rounds, place-fits, fails-round, fails-place, fails-end, fails-rest, none-some}
 use mathlib.Core.Path.{_≡_, refl, sym, ap, _∙_}
 use borrow.Author.Needs.{needs}

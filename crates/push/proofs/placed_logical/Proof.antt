@@ -3,7 +3,7 @@ use mathlib.Core.List.{[]}
 use Rattle.base.specs.Pick.{pick}
 use Rattle.base.specs.Checks.{first-fail}
 use Rattle.base.specs.Said.{refusal}
-use Rattle.push.specs.Address.{complete, updateChecks, addressed}
+use Rattle.address.specs.Address.{complete, updateChecks, addressed}
 use Rattle.push.specs.Push.{geometryChecks, newLogical}
 use Rattle.push.proofs.Steps.{fails-address, fails-count, fails-none, none-some}
 use mathlib.Core.Path.{_≡_, refl, sym, ap, _∙_}

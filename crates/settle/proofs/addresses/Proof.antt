@@ -2,7 +2,7 @@ use Rattle.settle.proofs.addresses.Statement.{statement}
 use Rattle.settle.proofs.addresses.Tie as tie
 use Rattle.settle.proofs.addresses.Reads as reads
 use Rattle.settle.proofs.addresses.Lts as lts
-use Rattle.push.proofs.with_geometry.Reads as with-geometry-reads
+use Rattle.address.proofs.with_geometry.Reads as with-geometry-reads
 use Rattle.settle.proofs.at_start.Reads as at-start-reads
 use lib.ListN.{length, length-map, length-set, take, drop, set, getD}
 use lib.Seq.{length-take-le, getD-take}

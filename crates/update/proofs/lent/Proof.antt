@@ -45,13 +45,13 @@ use Rattle.push.specs.Address.{updateChs}
 use Rattle.push.specs.Answers.{geometryIn}
 use Rattle.table.specs.declared.LogicalPartition.{LogicalPartition}
 use Rattle.base.specs.declared.Answer.{Answer}
-use Rattle.push.specs.declared.Updated.{Updated}
+use Rattle.address.specs.declared.Updated.{Updated}
 use Rattle.table.proofs.LogicalPartition as T
 use Rattle.table.proofs.LogicalPartition.Laws as T′
 use Rattle.base.proofs.Answer as N
 use Rattle.base.proofs.Answer.Laws as N′
-use Rattle.push.proofs.Updated as U
-use Rattle.push.proofs.Updated.Laws as U′
+use Rattle.address.proofs.Updated as U
+use Rattle.address.proofs.Updated.Laws as U′
 use Rattle.update.proofs.update_chs as g
 use Rattle.update.proofs.update_chs.Symbol as g-def
 use Rattle.update.proofs.update_chs.Symbol.{name as #update·update-chs}

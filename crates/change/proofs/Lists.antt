@@ -1,19 +1,17 @@
 -- The last logical partition, links, and the stores of a push. Assumes nothing.
 use mathlib.Core.Path.{_≡_, refl, ap, _∙_}
-use mathlib.Core.Option.{Option, none}
 use mathlib.Core.List.{List, [], _∷_}
 use Prim.Native.Nat.{ℕ, _-_, _<_}
 use native.Mathlib.Omega.{arith}
 use lib.ListN.{length, getD}
 use borrow.Author.Tests.{ne-eqb}
 use Rattle.entry.specs.declared.MBRPartitionEntry.{MBRPartitionEntry}
-use Rattle.entry.specs.Entry.{noEntry}
 use Rattle.table.specs.declared.LogicalPartition.{LogicalPartition}
 use Rattle.table.specs.Table.{noLogical}
-use Rattle.chain.specs.Facts.{bodyOf}
-use Rattle.links.specs.Links.{linkEntry, ebrFor, write}
 use Rattle.careful.specs.Stores.{lastOf, pushStores}
-use Rattle.change.specs.Change.{linkTo, linked, lastIn, storesBehind}
+use Rattle.pushstore.specs.Behind.{storesBehind}
+use Rattle.change.specs.Change.{lastIn}
+pub use Rattle.pushstore.proofs.Lists.{link-none, write-linked}
 
 -- the last one
 last-at : (l : LogicalPartition) (ls : List LogicalPartition) → lastOf l ls ≡ getD (l ∷ ls) (length ls) noLogical
@@ -27,15 +25,6 @@ last-in [] n e h = absurd (omega arith)
 last-in (l ∷ ls) n e h =
     let k : length ls ≡ n - 1 = omega arith in
     last-at l ls ∙ ap (λ (i : ℕ). getD (l ∷ ls) i noLogical) k
-
--- links
-pub link-none : (e : MBRPartitionEntry) → linkTo e none ≡ noEntry
-unfolding linkEntry
-link-none e = refl
-
-pub write-linked : (e : MBRPartitionEntry) (l : LogicalPartition) (o : Option LogicalPartition) → write e l o ≡ linked l (linkTo e o)
-unfolding write ebrFor bodyOf
-write-linked e l o = refl
 
 -- the stores of a push
 pub stores-behind : (e : MBRPartitionEntry) (ls : List LogicalPartition) (new : LogicalPartition) → pushStores e ls new ≡ storesBehind e (length ls) (lastIn ls) new

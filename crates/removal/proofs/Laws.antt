@@ -14,7 +14,7 @@ use Rattle.read.specs.Read.{readSays, tableFor}
 use Rattle.sound.specs.Sound.{Contents, contentsOf, soundb}
 use Rattle.careful.specs.Careful.{removeRefusals, removeChange, carefulRemove, carefulRemoveSays}
 use Rattle.careful.specs.Output.{outAfter, counted}
-use Rattle.change.specs.declared.Changed.{Changed}
+use Rattle.pushstore.specs.declared.Changed.{Changed}
 use Rattle.change.specs.Change.{changedSaid, Tells}
 use Rattle.change.proofs.Laws.{onRead, read-refused, read-told, on-extract}
 

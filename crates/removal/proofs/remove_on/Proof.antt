@@ -12,7 +12,7 @@ use Rattle.careful.specs.Stores.{removeStore}
 use Rattle.careful.specs.Careful.{areaOf, removeRefusals, removeChange}
 use Prim.Native.Nat.{_-_}
 use Rattle.careful.specs.Output.{storeBytes}
-use Rattle.change.specs.declared.Changed.the-variants.{Stores}
+use Rattle.pushstore.specs.declared.Changed.the-variants.{Stores}
 use Rattle.change.proofs.Laws.{tells-refused, tells-stored, one-store}
 use Rattle.removal.proofs.Laws.{remove-20, remove-low, remove-absent, remove-19, remove-holds}
 use borrow.Author.Needs.{needs}

@@ -3,11 +3,11 @@ use Prim.Native.Nat.{_≤_, _<_}
 use lib.ListN.{length}
 use Rattle.entry.specs.Entry.{endOf}
 use Rattle.chain.specs.Facts.{at}
-use Rattle.change.proofs.Laws.{tells-refused, tells-stored, space-12, space-21, space-19, space-holds}
-use Rattle.change.specs.Change.{spaceBehind, storesBehind}
+use Rattle.pushstore.proofs.Laws.{tells-refused, tells-stored, space-12, space-21, space-19, space-holds}
+use Rattle.pushstore.specs.Behind.{spaceBehind, storesBehind}
 use borrow.Author.Needs.{needs}
-use Rattle.change.proofs.push_new.Statement.{statement}
-use Rattle.change.proofs.push_new.Tie as tie
+use Rattle.pushstore.proofs.push_new.Statement.{statement}
+use Rattle.pushstore.proofs.push_new.Tie as tie
 
 cast-place : tie.Need-cast-place
 cast-place c = search needs

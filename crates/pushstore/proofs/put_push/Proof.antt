@@ -1,7 +1,7 @@
-use Rattle.change.proofs.Laws.{first-stored, later-stored}
+use Rattle.pushstore.proofs.Laws.{first-stored, later-stored}
 use borrow.Author.Needs.{needs}
-use Rattle.change.proofs.put_push.Statement.{statement}
-use Rattle.change.proofs.put_push.Tie as tie
+use Rattle.pushstore.proofs.put_push.Statement.{statement}
+use Rattle.pushstore.proofs.put_push.Tie as tie
 
 empty-requires : tie.Need-empty-requires
 empty-requires c κs = search needs

@@ -1,7 +1,7 @@
 use mathlib.Core.Path.{refl}
 use Rattle.careful.specs.Stores.{moved}
-use Rattle.change.proofs.move_first.Statement.{statement}
-use Rattle.change.proofs.move_first.Tie as tie
+use Rattle.pushstore.proofs.move_first.Statement.{statement}
+use Rattle.pushstore.proofs.move_first.Tie as tie
 
 returns : tie.Need-returns
 unfolding moved

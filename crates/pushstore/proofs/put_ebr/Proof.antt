@@ -1,9 +1,9 @@
 use mathlib.Core.Path.{_≡_, sym, _∙_}
 use lib.ListN.{length, length-map}
-use Rattle.change.proofs.Laws.{ebr-written}
+use Rattle.pushstore.proofs.Laws.{ebr-written}
 use borrow.Author.Needs.{needs}
-use Rattle.change.proofs.put_ebr.Statement.{statement}
-use Rattle.change.proofs.put_ebr.Tie as tie
+use Rattle.pushstore.proofs.put_ebr.Statement.{statement}
+use Rattle.pushstore.proofs.put_ebr.Tie as tie
 
 ebr-with-requires : tie.Need-ebr-with-requires
 ebr-with-requires c κs = search needs

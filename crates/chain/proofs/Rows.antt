@@ -7,17 +7,16 @@ use Prim.Native.Nat.{ℕ, zero, suc, _+_, _-_, _^_, _≤_, _<_}
 use native.Mathlib.Omega.{arith}
 use native.Mathlib.Nat.{add-zero}
 use lib.Dec.{eqb, ltb}
-use lib.ListN.{length}
-use borrow.Author.Tests.{ltb-true, lt-ltb, eq-eqb, ne-eqb, eqb-true}
+use borrow.Author.Tests.{ltb-true, lt-ltb}
 use Rattle.base.specs.Pick.{pick}
 use Rattle.base.specs.Said.{Said, gives, refuses, andThen}
-use Rattle.base.specs.Row.{next, Row}
+use Rattle.base.specs.Row.{next}
 use Rattle.entry.specs.declared.MBRPartitionEntry.{MBRPartitionEntry}
 use Rattle.ebr.specs.declared.EBRHeader.{EBRHeader}
 use Rattle.table.specs.declared.LogicalPartition.{LogicalPartition}
 use Rattle.table.specs.Table.{most}
 use Rattle.chain.specs.Chain.{Link, firstLink, linkOf, startingAt, placed, join, follow, chain, forgiven, logicalsOf}
-use Rattle.chain.specs.Facts.{Body, Next, stop, to, View, bad, ebr, nextOf, bodyIn, viewed, saw, at, start, linkIn, bodyOf, leads, Held, Before, Plain, Begins, Rows, Chained, Empty, Holds}
+use Rattle.chain.specs.Facts.{Body, Next, stop, to, View, bad, ebr, nextOf, viewed, saw, at, start, linkIn, bodyOf, leads, Held, Before, Plain, Rows, Empty, Holds}
 
 -- the chain from X + rel on, over the sectors seen as EBRs
 unfoldable pub placedBy : ℕ → Link → Body → LogicalPartition

@@ -16,17 +16,16 @@ use Rattle.base.specs.Row.{next, Row}
 use Rattle.entry.specs.declared.MBRPartitionEntry.{MBRPartitionEntry}
 use Rattle.ebr.specs.declared.EBRHeader.{EBRHeader}
 use Rattle.ebr.specs.Ebr.{ebrOf}
-use Rattle.extract.specs.Disk.{Disk}
 use Rattle.extract.specs.Extract.{Good, count, lbaAt, recordAt, diskOf, blank}
 use Rattle.extract.proofs.Disk.{sector-of}
 use Rattle.extract.proofs.Halves.{found-is}
 use Rattle.table.specs.declared.LogicalPartition.{LogicalPartition}
 use Rattle.table.specs.Table.{most, noLogical, emptySlot, slots, parts}
 use Rattle.chain.specs.Chain.{view, Link, firstLink, linkOf, placed, logicalsOf}
-use Rattle.chain.specs.Facts.{Body, Next, stop, to, View, nextOf, bodyIn, bodyOf, leads, linkIn, Held, Plain, Begins, Rows, Holds, at, seen}
+use Rattle.chain.specs.Facts.{stop, to, View, nextOf, bodyIn, bodyOf, leads, linkIn, Held, Plain, Holds, at, seen}
 use Rattle.chain.specs.Walk.{placesOf, counted, Fit, Fits, Noted, NotedAll, firstOf, partIn, lifted, linkAt, rebuilt, linkTo, Logicals, told}
 use Rattle.chain.specs.declared.Counted.{Counted}
-use Rattle.chain.proofs.View.{Seen, seen→view, view→facts}
+use Rattle.chain.proofs.View.{seen→view, view→facts}
 use Rattle.chain.proofs.Rows.{placedBy, placed-body, logicals→holds}
 
 -- number j of the partitions that are made

@@ -1,7 +1,7 @@
 -- The steps of reading a chain, ps the code takes them: places and record numbers. Assumes nothing.
-use mathlib.Core.Path.{_≡_, refl, sym, ap, subst, _∙_}
+use mathlib.Core.Path.{_≡_, refl, sym, ap, _∙_}
 use mathlib.Core.Logic.{_≢_}
-use mathlib.Core.List.{List, [], _∷_, map}
+use mathlib.Core.List.{List, [], _∷_}
 use mathlib.Core.Bool.{Bool, true, false}
 use mathlib.Core.Option.{some}
 use Prim.Native.Nat.{ℕ, zero, suc, _+_, _-_, _^_, _≤_, _<_}
@@ -23,7 +23,6 @@ use Rattle.ebr.specs.Ebr.{ebrChecks, ebrOf, entriesOf}
 use Rattle.extract.specs.Disk.{Disk}
 use Rattle.extract.specs.Extract.{Good, count, diskSectors, lbaAt, recordAt, recordOf, diskOf, blank}
 use Rattle.extract.specs.declared.Outcome.the-variants as outcome
-use Rattle.chain.specs.declared.Counted.{Counted}
 use Rattle.extract.proofs.Disk.{size-of, sector-of, found-sector}
 use Rattle.extract.proofs.Halves.{found-is, absent-is}
 use Rattle.table.specs.declared.LogicalPartition.{LogicalPartition}
@@ -31,7 +30,7 @@ use Rattle.table.specs.Table.{most}
 use Rattle.chain.specs.declared.Head.{Head}
 use Rattle.chain.specs.Chain.{view, Link, firstLink, linkOf, placed, join, follow, chain, forgiven, logicalsOf}
 use Rattle.chain.specs.Facts.{at}
-use Rattle.chain.specs.Walk.{entriesIn, shown, Ends, endsOf, endsIn, endsSaid, headEnds, HeadAt, before, onwards, places, placesFrom, placesOf, counted, Fit, Noted, NotedAll}
+use Rattle.chain.specs.Walk.{entriesIn, shown, Ends, endsOf, endsIn, endsSaid, HeadAt, before, onwards, places, placesFrom, placesOf, counted, NotedAll}
 
 -- an EBR that is seen
 andThen-checked : {A B : Type 0} (cs : List Check) (s : Said A) (f : A → Said B) → andThen (checked cs refuses s) f ≡ checked cs refuses (andThen s f)

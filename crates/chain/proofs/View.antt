@@ -1,20 +1,19 @@
 -- A sector seen as an EBR. Assumes nothing.
-use mathlib.Core.Path.{_≡_, refl, ap, sym, subst, _∙_}
-use mathlib.Core.Bool.{Bool, true, false}
-use mathlib.Core.List.{List, [], _∷_}
+use mathlib.Core.Path.{_≡_, refl}
+use mathlib.Core.List.{_∷_}
 use Prim.Native.Nat.{ℕ, _<_}
 use native.Mathlib.Omega.{arith}
-use lib.Dec.{eqb, ltb}
+use lib.Dec.{ltb}
 use borrow.Author.Tests.{ltb-true, lt-ltb, eq-eqb, ne-eqb}
 use Rattle.base.specs.Said.{Said, gives, refuses}
-use Rattle.base.specs.Checks.{_!_, checked, answer, AllHold}
+use Rattle.base.specs.Checks.{_!_, answer, AllHold}
 use Rattle.base.proofs.Checks.{answer-gives, none-fails, all-hold, checked-none}
 use Rattle.entry.specs.declared.MBRPartitionEntry.{MBRPartitionEntry}
 use Rattle.ebr.specs.declared.EBRHeader.{EBRHeader}
 use Rattle.ebr.specs.Ebr.{ebrChecks, ebrOf}
 use Rattle.extract.specs.Disk.{Disk}
 use Rattle.chain.specs.Chain.{view, linkOf}
-use Rattle.chain.specs.Facts.{Body, Next, stop, to, View, bad, ebr, nextOf, bodyIn, viewed, seen}
+use Rattle.chain.specs.Facts.{Body, Next, stop, to, ebr, nextOf, bodyIn, viewed}
 
 -- an EBR that is seen: its sector is on the disk, its signature and flags are right, and its bytes say it
 pub view→facts : (d : Disk) (a : ℕ) (h : EBRHeader) → view d a ≡ gives h → (a < d .size) × (ebrOf (d .sector a) ≡ h) × AllHold (ebrChecks (d .sector a))

@@ -15,14 +15,12 @@ use Rattle.ebr.specs.Ebr.{ebrOf}
 use Rattle.extract.specs.Extract.{count, lbaAt, recordAt}
 use Rattle.extract.specs.declared.Outcome.{Outcome}
 use Rattle.extract.specs.declared.Outcome.the-variants as outcome
-use Rattle.table.specs.declared.LinkLba.{LinkLba}
 use Rattle.table.specs.declared.LogicalPartition.{LogicalPartition}
 use Rattle.table.specs.Table.{slots}
 use Rattle.chain.specs.declared.Head.{Head}
 use Rattle.chain.specs.declared.Met.{Met}
 use Rattle.chain.specs.declared.Met.the-variants.{Shut, Ebr}
 use Rattle.chain.specs.declared.Counted.{Counted}
-use Rattle.chain.specs.declared.Way.{Way}
 use Rattle.chain.specs.Chain.{Link, firstLink, linkOf, startingAt, placed}
 use Rattle.chain.specs.Facts.{at}
 
@@ -109,10 +107,6 @@ NotedAll x is (refuses k) = Unit {0}
 -- the first m numbers fit
 abbrev pub Fits : List ℕ → ℕ → List ℕ → Type 0
 Fits x m is = (j : ℕ) → j < m → Fit x (getD is j 0)
-
--- the way to an EBR, ps a link
-abbrev pub linkBy : Way → Link
-linkBy w = record { sectors = w .sectors; first = w .first; last = w .last }
 
 -- the link to the first EBR, if there is an extended entry
 abbrev pub firstOf : Option MBRPartitionEntry → Link

@@ -1,5 +1,4 @@
 // The chain of EBRs, read from a checked extract.
-use chs::CHS;
 use ebr::Opened;
 use entry::MBRPartitionEntry;
 use extract::Outcome;
@@ -8,20 +7,16 @@ use extract::Spot;
 use table::DiskLba;
 use table::LOGICALS;
 use table::LinkLba;
-use table::LogicalPartition;
-use table::MaybeChs;
-use table::MaybeSectors;
 ghost use mathlib.Core.Path.{_≡_};
 ghost use mathlib.Core.Option.{some};
 ghost use Prim.Native.Nat.{_+_, _-_, _≤_, _<_};
-ghost use lib.ListN.{length, getD, take, drop};
+ghost use lib.ListN.{length, drop};
 ghost use Rattle.base.specs.Said.{refuses};
 ghost use Rattle.base.specs.Checks.{answer};
 ghost use Rattle.ebr.specs.Ebr.{ebrChecks, entriesOf};
 ghost use Rattle.extract.specs.Extract.{Good, count, diskSectors, lbaAt, recordAt, diskOf};
-ghost use Rattle.table.specs.Table.{slots};
-ghost use Rattle.chain.specs.Chain.{view, firstLink, linkOf, logicalsOf};
-ghost use Rattle.chain.specs.Walk.{endsOf, endsSaid, headEnds, metSaid, HeadAt, MetAt, onwards, places, placesFrom, placesOf, counted, Fit, NotedAll, Fits, linkBy, partIn, lifted, rebuilt, linkTo};
+ghost use Rattle.chain.specs.Chain.{view, logicalsOf};
+ghost use Rattle.chain.specs.Walk.{endsOf, endsSaid, headEnds, metSaid, HeadAt, MetAt, onwards, places, placesFrom, placesOf, counted, NotedAll};
 
 // An EBR that is opened: the number of its record, its partition's start and its link's.
 pub struct Head {
@@ -40,13 +35,6 @@ pub enum Met {
 pub struct Counted {
     pub answer: Outcome,
     pub count: usize,
-}
-
-// The way to an EBR: its link's sectors, first and last CHS.
-pub struct Way {
-    pub sectors: MaybeSectors,
-    pub first: CHS,
-    pub last: MaybeChs,
 }
 
 // Where a link leads on the disk. Nowhere else is a link's place turned into one of the disk.
@@ -199,108 +187,4 @@ pub fn read_chain(
         },
         Met::Ebr(h) => ebr_step(x, n, d, base, LinkLba(0), h, LOGICALS, found),
     }
-}
-
-// The way that a link entry gives.
-fn way_of(link: MBRPartitionEntry) -> Way
-    ensures { λ r. ⌜ linkBy r ≡ linkOf link ⌝ }
-{
-    let first = link.first_chs;
-    let last = link.last_chs;
-    Way {
-        sectors: MaybeSectors::Present(link.sectors),
-        first: first,
-        last: MaybeChs::Present(last),
-    }
-}
-
-// The way to number j of the EBRs found: the first has no link.
-fn way_to(x: &[u8], n: usize, found: &[usize], j: usize, extended: MBRPartitionEntry) -> Way
-    requires { ⌜ (n ≡ count (now x)) × Good (now x) ⌝ }
-    requires { ⌜ (j < length (now found)) × Fits (now x) j (now found) ⌝ }
-    ensures { λ r. ⌜ linkBy r ≡ linkTo (now (x .entry)) (firstLink extended) (now (found .entry)) j ⌝ }
-{
-    if j == 0 {
-        let first = extended.first_chs;
-        return Way {
-            sectors: MaybeSectors::Absent,
-            first: first,
-            last: MaybeChs::Absent,
-        };
-    }
-    let r = extract::record_at(x, n, found[j - 1]);
-    let link = entry::read(r, 462);
-    way_of(link)
-}
-
-// The entry of the partition of record number i, its start counted from the disk's.
-pub fn part_at(x: &[u8], n: usize, i: usize) -> MBRPartitionEntry
-    requires { ⌜ (n ≡ count (now x)) × Good (now x) ⌝ }
-    requires { ⌜ Fit (now x) i ⌝ }
-    ensures { λ r. ⌜ r ≡ partIn (now (x .entry)) i ⌝ }
-{
-    let a = extract::lba_at(x, n, i);
-    let r = extract::record_at(x, n, i);
-    let mut p = entry::read(r, 446);
-    p.starting_lba = p.starting_lba + a;
-    p
-}
-
-// The logical partition of record number i.
-fn lift(x: &[u8], n: usize, i: usize, way: Way) -> LogicalPartition
-    requires { ⌜ (n ≡ count (now x)) × Good (now x) ⌝ }
-    requires { ⌜ Fit (now x) i ⌝ }
-    ensures { λ r. ⌜ r ≡ lifted (now (x .entry)) (linkBy way) i ⌝ }
-{
-    let p = part_at(x, n, i);
-    let a = extract::lba_at(x, n, i);
-    let r = extract::record_at(x, n, i);
-    let sectors = way.sectors;
-    let first = way.first;
-    let last = way.last;
-    LogicalPartition {
-        partition: p,
-        absolute_ebr_lba: DiskLba(a),
-        ebr_sectors: sectors,
-        ebr_first_chs: first,
-        ebr_last_chs: last,
-        kept: ebr::kept_of(r),
-    }
-}
-
-// The logical partition of number j of the EBRs found.
-fn logical_at(
-    x: &[u8],
-    n: usize,
-    found: &[usize],
-    j: usize,
-    extended: MBRPartitionEntry,
-) -> LogicalPartition
-    requires { ⌜ (n ≡ count (now x)) × Good (now x) ⌝ }
-    requires { ⌜ (j < length (now found)) × Fits (now x) (j + 1) (now found) ⌝ }
-    ensures { λ r. ⌜ r ≡ lifted (now (x .entry)) (linkTo (now (x .entry)) (firstLink extended) (now (found .entry)) j) (getD (now (found .entry)) j 0) ⌝ }
-{
-    let way = way_to(x, n, found, j, extended);
-    lift(x, n, found[j], way)
-}
-
-// The logical partitions of the first m records found, in slots.
-pub fn attach(
-    x: &[u8],
-    n: usize,
-    found: &[usize],
-    m: usize,
-    extended: MBRPartitionEntry,
-) -> [LogicalPartition; LOGICALS]
-    requires { ⌜ (n ≡ count (now x)) × Good (now x) ⌝ }
-    requires { ⌜ (m ≤ 24) × (length (now found) ≡ 24) × Fits (now x) m (now found) ⌝ }
-    ensures { λ r. ⌜ r ≡ slots (take m (rebuilt (now (x .entry)) (firstLink extended) (now (found .entry)))) ⌝ }
-{
-    let none = LogicalPartition::empty();
-    let mut ls = [none; LOGICALS];
-    for j in 0..m {
-        let l = logical_at(x, n, found, j, extended);
-        ls[j] = l;
-    }
-    ls
 }

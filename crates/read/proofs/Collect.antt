@@ -1,9 +1,9 @@
 -- Adding what is wanted ends after at most 26 records, in an extract that reads as the disk. Assumes nothing.
-use mathlib.Core.Path.{_≡_, refl, sym, ap, _∙_}
+use mathlib.Core.Path.{_≡_, refl, sym, _∙_}
 use mathlib.Core.List.{List, [], _∷_}
 use mathlib.Core.Bool.{Bool, true, false}
 use mathlib.Core.Option.{Option, none, some}
-use mathlib.Core.Logic.{_⊎_, inl, inr}
+use mathlib.Core.Logic.{inl, inr}
 use Prim.Native.Nat.{ℕ, zero, suc, _+_, _^_, _≤_, _<_}
 use native.Mathlib.Omega.{arith}
 use lib.Dec.{eqb, ltb}
@@ -13,7 +13,6 @@ use Rattle.base.specs.Pick.{pick}
 use Rattle.base.specs.Said.{Said, gives, refuses}
 use Rattle.entry.specs.declared.MBRPartitionEntry.{MBRPartitionEntry}
 use Rattle.ebr.specs.declared.EBRHeader.{EBRHeader}
-use Rattle.mbr.specs.declared.MBRHeader.{MBRHeader}
 use Rattle.mbr.specs.Mbr.{primaries, extendedOf}
 use Rattle.extract.specs.Disk.{Disk}
 use Rattle.extract.specs.Extract.{Good, diskOf, recordOf}
@@ -21,10 +20,11 @@ use Rattle.extract.proofs.Disk.{found-sector}
 use Rattle.table.specs.Table.{most}
 use Rattle.chain.specs.Chain.{view}
 use Rattle.chain.proofs.View.{view-same}
-use Rattle.read.specs.Read.{headerOn, read}
+use Rattle.header.specs.Header.{headerOn}
+use Rattle.read.specs.Read.{read}
 use Rattle.read.specs.Facts.{ifGiven, looking, ahead, behind, chainLooks, looked}
 use Rattle.read.specs.Wanted.{absent, firstAbsent, From}
-use Rattle.read.specs.Collect.{Has, missing, Adds, Collected, enough, more}
+use Rattle.read.specs.Collect.{Has, missing, Collected, enough, more}
 use Rattle.read.proofs.Facts.{header-same}
 use Rattle.read.proofs.Wants.{wants-nothing, looked-few}
 

@@ -1,17 +1,13 @@
 -- A disk reads as a table exactly when the facts hold. Assumes nothing.
 use mathlib.Core.Path.{_≡_, refl, ap, sym, subst, _∙_}
-use mathlib.Core.Option.{Option, none, some}
-use mathlib.Core.Bool.{Bool, true, false}
-use mathlib.Core.List.{List, [], _∷_, _++_}
+use mathlib.Core.List.{List, _∷_, _++_}
 use Prim.Native.Nat.{ℕ, _≤_, _<_}
 use native.Mathlib.Omega.{arith}
 use lib.Dec.{ltb}
 use borrow.Author.Tests.{ltb-true, lt-ltb}
-use Rattle.base.specs.Pick.{pick}
 use Rattle.base.specs.Said.{Said, gives, refuses, andThen}
-use Rattle.base.specs.Checks.{_!_, checked, answer, AllHold}
+use Rattle.base.specs.Checks.{_!_, AllHold}
 use Rattle.base.proofs.Checks.{answer-gives, none-fails, all-hold, checked-none}
-use Rattle.entry.specs.declared.MBRPartitionEntry.{MBRPartitionEntry}
 use Rattle.mbr.specs.declared.MBRHeader.{MBRHeader}
 use Rattle.mbr.specs.Mbr.{mbrOf, headerChecks, primaries, extendedOf}
 use Rattle.extract.specs.Disk.{Disk}
@@ -21,11 +17,12 @@ use Rattle.extract.specs.Answers.{checkSays}
 use Rattle.table.specs.declared.LogicalPartition.{LogicalPartition}
 use Rattle.table.specs.Table.{parts}
 use Rattle.chain.specs.Chain.{view, logicalsOf}
-use Rattle.chain.specs.Facts.{seen, Holds}
+use Rattle.chain.specs.Facts.{seen}
 use Rattle.chain.proofs.Rows.{holds→logicals, logicals→holds}
 use Rattle.chain.proofs.Slots.{holds-few}
 use Rattle.align.specs.Align.{usedStarts, alignment}
-use Rattle.read.specs.Read.{Table, headerOn, withChain, read, readSays, tableOf, noTable, tableFor}
+use Rattle.read.specs.Read.{Table, withChain, read, readSays, tableOf, noTable, tableFor}
+use Rattle.header.specs.Header.{headerOn}
 use Rattle.read.specs.Facts.{Reads}
 
 -- a header that is read: sector 0 is on the disk, its signature and flags are right, and its bytes say it

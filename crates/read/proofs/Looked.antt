@@ -1,14 +1,14 @@
 -- Reading looks at no sector but 0 and the chain's places. Assumes nothing.
-use mathlib.Core.Path.{_≡_, refl, ap, sym, _∙_}
+use mathlib.Core.Path.{_≡_, refl, ap}
 use mathlib.Core.Option.{Option, none, some}
 use mathlib.Core.Bool.{Bool, true, false}
-use mathlib.Core.List.{List, [], _∷_, _++_}
+use mathlib.Core.List.{List, [], _∷_}
 use Prim.Native.Nat.{ℕ, zero, suc, _+_, _^_}
 use native.Mathlib.Omega.{arith}
 use lib.Dec.{eqb, ltb}
 use Rattle.base.specs.Pick.{pick}
 use Rattle.base.specs.Said.{Said, gives, refuses, andThen}
-use Rattle.base.specs.Checks.{_!_, checked, answer}
+use Rattle.base.specs.Checks.{answer}
 use Rattle.entry.specs.declared.MBRPartitionEntry.{MBRPartitionEntry}
 use Rattle.ebr.specs.declared.EBRHeader.{EBRHeader}
 use Rattle.ebr.specs.Ebr.{ebrChecks, ebrOf}
@@ -18,8 +18,8 @@ use Rattle.extract.specs.Disk.{Disk}
 use Rattle.table.specs.declared.LogicalPartition.{LogicalPartition}
 use Rattle.table.specs.Table.{most}
 use Rattle.chain.specs.Chain.{view, Link, firstLink, linkOf, placed, join, follow, chain, forgiven, logicalsOf}
-use Rattle.align.specs.Align.{usedStarts, alignment}
-use Rattle.read.specs.Read.{Table, headerOn, withChain, read}
+use Rattle.read.specs.Read.{withChain, read}
+use Rattle.header.specs.Header.{headerOn}
 use Rattle.read.specs.Facts.{ifGiven, looking, ahead, behind, chainLooks, looked, Agree}
 
 module _ (d e : Disk) (width : d .width ≡ e .width) (size : d .size ≡ e .size) where

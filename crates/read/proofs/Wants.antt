@@ -1,5 +1,5 @@
 -- What an extract wants: the steps of the search, and what it means to want nothing. Assumes nothing.
-use mathlib.Core.Path.{_≡_, refl, sym, ap, subst, _∙_}
+use mathlib.Core.Path.{_≡_, refl, sym, ap, _∙_}
 use mathlib.Core.List.{List, [], _∷_}
 use mathlib.Core.Bool.{Bool, true, false}
 use mathlib.Core.Option.{Option, none, some}
@@ -10,7 +10,7 @@ use lib.Dec.{eqb, ltb}
 use lib.ListN.{length}
 use borrow.Author.Tests.{eq-eqb, ne-eqb, lt-ltb, le-ltb, eqb-false}
 use Rattle.base.specs.Pick.{pick}
-use Rattle.base.specs.Said.{Said, gives, refuses, andThen}
+use Rattle.base.specs.Said.{Said, gives, refuses}
 use Rattle.entry.specs.declared.MBRPartitionEntry.{MBRPartitionEntry}
 use Rattle.ebr.specs.declared.Entries.{Entries}
 use Rattle.ebr.specs.declared.EBRHeader.{EBRHeader}
@@ -18,18 +18,18 @@ use Rattle.mbr.specs.declared.MBRHeader.{MBRHeader}
 use Rattle.mbr.specs.Mbr.{primaries, extendedOf}
 use Rattle.extract.specs.Disk.{Disk}
 use Rattle.extract.specs.Extract.{Good, diskOf, diskSectors, recordOf}
-use Rattle.extract.specs.Answers.{checkSays}
+use Rattle.extract.specs.Answers.{checkSays, outcomeSaid}
 use Rattle.extract.specs.declared.Extract.{Extract}
 use Rattle.extract.specs.declared.Refusal.{Refusal}
 use Rattle.extract.specs.declared.Outcome.the-variants as outcome
-use Rattle.extract.specs.Answers.{outcomeSaid}
 use Rattle.extract.proofs.Disk.{size-of, found-sector}
 use Rattle.table.specs.Table.{most}
 use Rattle.chain.specs.Chain.{view}
 use Rattle.chain.specs.Walk.{entriesIn, shown}
-use Rattle.read.specs.Read.{Table, headerOn, read}
-use Rattle.read.specs.Answers.{headerTold}
-use Rattle.read.specs.declared.HeaderRead.{HeaderRead}
+use Rattle.read.specs.Read.{read}
+use Rattle.header.specs.Header.{headerOn}
+use Rattle.header.specs.Answers.{headerTold}
+use Rattle.header.specs.declared.HeaderRead.{HeaderRead}
 use Rattle.read.specs.Facts.{ifGiven, looking, ahead, behind, chainLooks, looked, Agree}
 use Rattle.read.specs.Wanted.{absent, firstAbsent, wantedSays, onwardFrom, looksFrom, From}
 use Rattle.read.proofs.Looked.{read-like}

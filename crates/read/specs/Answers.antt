@@ -1,22 +1,12 @@
 -- What each answer of the crate says. Assumes nothing.
 use Prim.Native.Nat.{ℕ}
-use mathlib.Core.List.{List, [], _∷_, _++_, map}
-use lib.ListN.{take}
+use mathlib.Core.List.{List}
 use Rattle.base.specs.Said.{Said, gives, refuses}
 use Rattle.mbr.specs.declared.MBRHeader.{MBRHeader}
-use Rattle.mbr.specs.Mbr.{primaries, noHeader}
 use Rattle.extract.specs.declared.Outcome.the-variants as outcome
 use Rattle.table.specs.declared.LogicalPartition.{LogicalPartition}
-use Rattle.chain.specs.Walk.{partIn}
-use Rattle.align.specs.Align.{usedStarts}
-use Rattle.read.specs.declared.HeaderRead.{HeaderRead}
 use Rattle.read.specs.declared.ReadAnswer.{ReadAnswer}
 use Rattle.read.specs.Read.{Table, tableOf, noTable}
-
--- a header; a refusal with none
-abbrev pub headerTold : Said MBRHeader → HeaderRead
-headerTold (gives h) = record { answer = outcome.Done; header = h }
-headerTold (refuses k) = record { answer = outcome.Refused (record { number = k }); header = noHeader }
 
 -- a table; a refusal with none
 abbrev pub tableTold : Said Table → ReadAnswer
@@ -42,7 +32,3 @@ finished w d h ls n (gives a) =
           };
     }
 finished w d h ls n (refuses k) = tableTold (refuses k)
-
--- the starts of the used entries of the header and of the partitions of the first n records of these numbers
-abbrev pub startsFound : List ℕ → MBRHeader → List ℕ → ℕ → List ℕ
-startsFound x h is n = usedStarts (primaries h ++ map (partIn x) (take n is))

@@ -8,14 +8,14 @@ use Rattle.base.specs.Pick.{pick}
 use Rattle.base.specs.Said.{Said, gives, refuses}
 use Rattle.entry.specs.declared.MBRPartitionEntry.{MBRPartitionEntry}
 use Rattle.ebr.specs.declared.EBRHeader.{EBRHeader}
-use Rattle.mbr.specs.declared.MBRHeader.{MBRHeader}
 use Rattle.mbr.specs.Mbr.{primaries, extendedOf}
 use Rattle.extract.specs.Disk.{Disk}
 use Rattle.table.specs.Table.{most, parts}
 use Rattle.chain.specs.Chain.{view}
 use Rattle.chain.specs.Facts.{seen, Holds}
 use Rattle.align.specs.Align.{usedStarts, alignment}
-use Rattle.read.specs.Read.{Table, headerOn}
+use Rattle.read.specs.Read.{Table}
+use Rattle.header.specs.Header.{headerOn}
 
 -- the disk reads as this table
 pub record Reads (d : Disk) (t : Table) : Type 0 where

@@ -1,13 +1,10 @@
 -- Reading a table from the disk that an extract stands for: 1, 2, 3, 4, chain, 7. Assumes nothing.
 use Prim.Native.Nat.{ℕ}
-use mathlib.Core.List.{List, [], _∷_, _++_}
-use mathlib.Core.Option.{Option}
-use lib.Dec.{ltb}
+use mathlib.Core.List.{List, [], _++_}
 use lib.ListN.{length}
-use Rattle.base.specs.Said.{Said, gives, refuses, andThen, failure, valueOr}
-use Rattle.base.specs.Checks.{_!_, checked, answer}
+use Rattle.base.specs.Said.{Said, gives, refuses, andThen}
 use Rattle.mbr.specs.declared.MBRHeader.{MBRHeader}
-use Rattle.mbr.specs.Mbr.{mbrOf, headerChecks, primaries, extendedOf, noHeader}
+use Rattle.mbr.specs.Mbr.{primaries, extendedOf, noHeader}
 use Rattle.extract.specs.Disk.{Disk}
 use Rattle.extract.specs.Extract.{diskOf}
 use Rattle.extract.specs.Answers.{checkSays}
@@ -17,6 +14,7 @@ use Rattle.table.specs.Table.{defaultAlign, parts}
 pub use Rattle.table.specs.Table.{slots}
 use Rattle.chain.specs.Chain.{view, logicalsOf}
 use Rattle.align.specs.Align.{usedStarts, alignment}
+unfoldable pub use Rattle.header.specs.Header.{headerOn, headerSays}
 
 -- a table as a disk says it
 pub record Table : Type 0 where
@@ -25,10 +23,6 @@ pub record Table : Type 0 where
   pub header : MBRHeader
   pub logicals : List LogicalPartition
   pub align : ℕ
-
--- the MBR at sector 0: past the disk 2, signature 3, flags 4
-unfoldable pub headerOn : Disk → Said MBRHeader
-headerOn d = answer ((2 ! ltb 0 (d .size)) ∷ headerChecks (mbrOf (d .sector 0))) (mbrOf (d .sector 0))
 
 -- the header with its chain
 unfoldable pub withChain : Disk → MBRHeader → Said Table
@@ -44,10 +38,6 @@ read d = andThen (headerOn d) (withChain d)
 -- what an extract reads as
 unfoldable pub readSays : List ℕ → Said Table
 readSays x = andThen (checkSays x) (λ e. read (diskOf x))
-
--- its header alone
-unfoldable pub headerSays : List ℕ → Said MBRHeader
-headerSays x = andThen (checkSays x) (λ e. headerOn (diskOf x))
 
 -- the table by value: no geometry
 unfoldable pub tableOf : Table → MBR

@@ -1,5 +1,5 @@
 -- The first sector that reading looks at and an extract has no record for. Assumes nothing.
-use Prim.Native.Nat.{ℕ, _+_, _-_, _^_}
+use Prim.Native.Nat.{ℕ, _+_, _^_}
 use mathlib.Core.List.{List, [], _∷_}
 use mathlib.Core.Bool.{Bool, false}
 use mathlib.Core.Option.{Option, none, some}
@@ -12,7 +12,6 @@ use Rattle.ebr.specs.declared.Entries.{Entries}
 use Rattle.extract.specs.Disk.{Disk}
 use Rattle.extract.specs.Extract.{diskOf, recordOf}
 use Rattle.extract.specs.Answers.{checkSays}
-use Rattle.table.specs.declared.LinkLba.{LinkLba}
 use Rattle.chain.specs.Chain.{view}
 use Rattle.read.specs.declared.Want.{Want}
 use Rattle.read.specs.declared.Want.the-variants as want

@@ -1,7 +1,5 @@
 // A table, read from an extract.
 use align::Aligned;
-use align::Starts;
-use base::Answer;
 use chain::Counted;
 use ebr::Entries;
 use ebr::Opened;
@@ -10,6 +8,8 @@ use extract::Extract;
 use extract::Header;
 use extract::Outcome;
 use extract::Refusal;
+pub use header::HeaderRead;
+pub use header::read_header;
 use mbr::Found;
 use mbr::MBRHeader;
 use table::DiskLba;
@@ -18,28 +18,21 @@ use table::LinkLba;
 use table::LogicalPartition;
 use table::MBR;
 ghost use mathlib.Core.Path.{_≡_};
-ghost use mathlib.Core.List.{List, [], _++_};
-ghost use mathlib.Core.Option.{some};
 ghost use Prim.Native.Nat.{_+_, _≤_, _<_};
 ghost use lib.ListN.{length, take};
-ghost use Rattle.base.specs.Said.{gives, refuses, andThen, failure, valueOr};
-ghost use Rattle.mbr.specs.Mbr.{noHeader, primaries, extendedOf, found};
+ghost use Rattle.base.specs.Said.{gives, refuses, failure};
+ghost use Rattle.mbr.specs.Mbr.{found};
 ghost use Rattle.extract.specs.Extract.{Good, count, diskSectors, diskOf};
 ghost use Rattle.extract.specs.Answers.{outcomeSaid, headerOf};
 ghost use Rattle.table.specs.Table.{slots};
 ghost use Rattle.chain.specs.Chain.{view, firstLink, logicalsOf};
 ghost use Rattle.chain.specs.Walk.{placesOf, counted, NotedAll, Fits, firstOf, rebuilt};
-ghost use Rattle.align.specs.Align.{usedStarts, alignment, startsIn};
-ghost use Rattle.read.specs.Read.{headerOn, withChain, read, readSays, headerSays, noTable, tableFor};
-ghost use Rattle.read.specs.Facts.{looked, chainLooks};
+ghost use Rattle.align.specs.Align.{alignment};
+ghost use Rattle.read.specs.Read.{withChain, read, readSays, tableFor};
+ghost use Rattle.read.specs.Facts.{looked};
 ghost use Rattle.read.specs.Wanted.{firstAbsent, wantedSays, wantedSaid, onwardFrom, onwardSaid, looksFrom};
-ghost use Rattle.read.specs.Answers.{headerTold, tableTold, finished, startsFound};
-
-// A header, or a refusal with an empty one.
-pub struct HeaderRead {
-    pub answer: Outcome,
-    pub header: MBRHeader,
-}
+ghost use Rattle.read.specs.Answers.{tableTold, finished};
+ghost use Rattle.starts.specs.Starts.{startsFound};
 
 // A table, or a refusal with an empty one.
 pub struct ReadAnswer {
@@ -58,53 +51,6 @@ pub enum Want {
 pub enum Onward {
     Stop,
     To(LinkLba),
-}
-
-fn no_header(k: u8) -> HeaderRead
-    ensures { λ r. ⌜ r ≡ headerTold (refuses k) ⌝ }
-{
-    HeaderRead {
-        answer: Outcome::Refused(Refusal { number: k }),
-        header: MBRHeader::new([0u8; 4]),
-    }
-}
-
-// The header of a checked extract: 2, 3, 4. A sector without a record is blank: 3.
-fn header_of(x: &[u8], n: usize, d: u32) -> HeaderRead
-    requires { ⌜ (n ≡ count (now x)) × Good (now x) ⌝ }
-    requires { ⌜ d ≡ diskSectors (now x) ⌝ }
-    ensures { λ r. ⌜ r ≡ headerTold (headerOn (diskOf (now (x .entry)))) ⌝ }
-{
-    if d == 0 {
-        return no_header(2);
-    }
-    let r = extract::record_of(x, n, 0);
-    if r.len() == 0 {
-        return no_header(3);
-    }
-    let a = mbrread::read(r);
-    let answer = a.answer;
-    match answer {
-        Answer::Refused(k) => no_header(k),
-        Answer::Done => {
-            let header = a.header;
-            HeaderRead {
-                answer: Outcome::Done,
-                header: header,
-            }
-        }
-    }
-}
-
-// The header alone, from an extract: 1, 2, 3, 4.
-pub fn read_header(x: &[u8]) -> HeaderRead
-    ensures { λ r. ⌜ outcomeSaid (r .answer) ≡ failure (headerSays (now (x .entry))) ⌝ }
-    ensures { λ r. ⌜ r .header ≡ valueOr noHeader (headerSays (now (x .entry))) ⌝ }
-{
-    match extract::check(x) {
-        Header::Refused(r) => no_header(r.number),
-        Header::Good(e) => header_of(x, e.count, e.disk_size),
-    }
 }
 
 fn no_table(k: u8) -> ReadAnswer
@@ -130,39 +76,6 @@ fn no_table(k: u8) -> ReadAnswer
     }
 }
 
-// The used starts of the four primary entries.
-fn primary_starts(h: MBRHeader) -> Starts
-    ensures { λ r. ⌜ (startsIn r ≡ usedStarts (primaries h)) × (r .count ≤ 4) ⌝ }
-{
-    let none = Starts::new();
-    let one = h.partition_1;
-    let first = none.with(one);
-    let two = h.partition_2;
-    let second = first.with(two);
-    let three = h.partition_3;
-    let third = second.with(three);
-    let four = h.partition_4;
-    third.with(four)
-}
-
-// The used starts of the header and of the partitions of m records.
-fn starts_of(x: &[u8], n: usize, h: MBRHeader, ebrs: &[usize], m: usize) -> Starts
-    requires { ⌜ (n ≡ count (now x)) × Good (now x) ⌝ }
-    requires { ⌜ (m ≤ 24) × (length (now ebrs) ≡ 24) × Fits (now x) m (now ebrs) ⌝ }
-    ensures { λ r. ⌜ (startsIn r ≡ startsFound (now (x .entry)) h (now (ebrs .entry)) m) × (r .count ≤ 28) ⌝ }
-{
-    let mut all = primary_starts(h);
-    for j in 0..m {
-        let p = chain::part_at(x, n, ebrs[j]);
-        if p.sys != 0 {
-            let k = all.count;
-            all.at[k] = p.starting_lba;
-            all.count = k + 1;
-        }
-    }
-    all
-}
-
 // The table of a header and the logical partitions of m records: no alignment is 7.
 fn finish(
     x: &[u8],
@@ -177,11 +90,11 @@ fn finish(
     ensures { λ r. ⌜ r ≡ finished (e .«sector_size») (e .«disk_size») header (slots (take m (rebuilt (now (x .entry)) (firstLink first) (now (ebrs .entry))))) m (alignment (startsFound (now (x .entry)) header (now (ebrs .entry)) m)) ⌝ }
 {
     let n = e.count;
-    let starts = starts_of(x, n, header, ebrs, m);
+    let starts = starts::starts_of(x, n, header, ebrs, m);
     match starts.alignment() {
         Aligned::Refused(k) => no_table(k),
         Aligned::Align(a) => {
-            let ls = chain::attach(x, n, ebrs, m, first);
+            let ls = logicals::attach(x, n, ebrs, m, first);
             let table = MBR {
                 sector_size: e.sector_size,
                 header: header,
@@ -250,7 +163,7 @@ fn read_good(x: &[u8], e: Extract) -> ReadAnswer
     requires { ⌜ (e ≡ headerOf (now x)) × Good (now x) ⌝ }
     ensures { λ r. ⌜ r ≡ tableTold (read (diskOf (now (x .entry)))) ⌝ }
 {
-    let h = header_of(x, e.count, e.disk_size);
+    let h = header::header_of(x, e.count, e.disk_size);
     let answer = h.answer;
     match answer {
         Outcome::Refused(r) => no_table(r.number),
@@ -329,7 +242,7 @@ fn wanted_of(x: &[u8], n: usize, size: u32) -> Want
     if r.len() == 0 {
         return Want::Sector(0);
     }
-    let h = header_of(x, n, size);
+    let h = header::header_of(x, n, size);
     let answer = h.answer;
     match answer {
         Outcome::Refused(_) => Want::Nothing,

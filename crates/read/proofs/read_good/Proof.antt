@@ -8,7 +8,7 @@ use Rattle.read.proofs.read_good.Statement.{statement}
 use Rattle.read.proofs.read_good.Tie as tie
 use Rattle.read.proofs.read_good.Reads as reads
 use Rattle.read.proofs.read_good.Lts as lts
-use Rattle.read.proofs.header_of.Reads as header-of-reads
+use Rattle.header.proofs.header_of.Reads as header-of-reads
 use Rattle.read.proofs.no_table.Reads as no-table-reads
 use Rattle.read.proofs.with_chain.Reads as with-chain-reads
 

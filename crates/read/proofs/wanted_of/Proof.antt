@@ -1,6 +1,6 @@
 use Rattle.read.proofs.Wants.{want-past, want-absent, want-there, want-header-bad, want-header, want-looked, want-no-chain, want-chain}
 use Rattle.read.specs.Facts.{chainLooks}
-use Rattle.read.specs.Read.{headerOn}
+use Rattle.header.specs.Header.{headerOn}
 use Rattle.extract.specs.Extract.{diskOf, diskSectors}
 use Rattle.mbr.specs.Mbr.{found, primaries, extendedOf}
 use Rattle.mbr.specs.declared.MBRHeader.{MBRHeader}
@@ -17,7 +17,7 @@ use Rattle.read.proofs.wanted_of.Reads as reads
 use Rattle.read.proofs.wanted_of.Lts as lts
 use Rattle.extract.proofs.record_of.Reads as record-of-reads
 use Rattle.mbr.proofs.MBRHeader.get_extended_partition.Reads as get-extended-partition-reads
-use Rattle.read.proofs.header_of.Reads as header-of-reads
+use Rattle.header.proofs.header_of.Reads as header-of-reads
 use Rattle.read.proofs.wanted_from.Reads as wanted-from-reads
 
 above : {d s : ℕ} → (d ≡ 0 → ⊥) → d ≡ s → 0 < s

@@ -1,5 +1,6 @@
 use Rattle.read.proofs.Says.{chain-refused, chain-table}
-use Rattle.read.specs.Answers.{tableTold, finished, startsFound}
+use Rattle.read.specs.Answers.{tableTold, finished}
+use Rattle.starts.specs.Starts.{startsFound}
 use Rattle.align.specs.Align.{alignment}
 use Rattle.mbr.specs.Mbr.{primaries, extendedOf}
 use Rattle.extract.specs.declared.Extract.{Extract}

@@ -1,9 +1,8 @@
 -- What an answer says determines it. Assumes nothing.
-use mathlib.Core.Path.{_≡_, refl, sym, ap, _∙_}
+use mathlib.Core.Path.{_≡_, refl, ap}
 use Prim.Native.Nat.{ℕ}
 use native.Mathlib.Omega.{arith}
 use Rattle.extract.specs.declared.Refusal.{Refusal}
-use Rattle.extract.specs.declared.Extract.{Extract}
 use Rattle.extract.specs.declared.Header.{Header}
 use Rattle.extract.specs.declared.Header.the-variants as header
 use Rattle.extract.specs.declared.Outcome.{Outcome}

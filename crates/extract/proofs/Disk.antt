@@ -1,19 +1,20 @@
 -- Laws of disks, and of the disk of an extract. Assumes nothing.
-use mathlib.Core.Path.{_≡_, refl, sym, ap, _∙_}
+use mathlib.Core.Path.{_≡_, refl, ap, _∙_}
 use mathlib.Core.Logic.{_≢_, _⊎_, inl, inr}
 use mathlib.Core.List.{List, [], _∷_, _++_}
 use mathlib.Core.Bool.{Bool, true, false}
-use Prim.Native.Nat.{ℕ, zero, suc, _+_, _*_, _-_, _≤_, _<_}
+use Prim.Native.Nat.{ℕ, zero, suc, _+_, _*_, _≤_, _<_}
 use native.Mathlib.Omega.{arith}
 use lib.Dec.{eqb}
-use lib.ListN.{length, take, drop, replicate, length-replicate, length-drop}
+use lib.ListN.{length, drop, length-replicate, length-drop}
 use lib.Seq.{length-take-le}
 use borrow.Author.Tests.{eq-eqb, ne-eqb}
 use Rattle.base.specs.Pick.{pick}
-use Rattle.base.specs.Bytes.{Bytes, Record}
+use Rattle.base.specs.Bytes.{Record}
 use Rattle.base.proofs.Bytes.{bytes-zeros, bytes-take, bytes-drop}
 use Rattle.extract.specs.Disk.{Disk, Store, stored, after, Same}
-use Rattle.extract.specs.Extract.{sectorSize, diskSectors, count, lbaAt, recordAt, recordsFrom, records, recordIn, recordOf, blank, sizeOk, Good, diskOf}
+use Rattle.extract.specs.Extract.{sectorSize, diskSectors, count, lbaAt, recordAt, recordsFrom, records, recordIn, recordOf, blank, Good, diskOf}
+use Rattle.extractrules.specs.Rules.{sizeOk}
 use Rattle.extract.proofs.Good.{good-long, good-size, word-below}
 
 -- a stored sector holds what was stored, every other what it held

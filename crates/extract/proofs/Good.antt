@@ -1,24 +1,24 @@
 -- What the check says, and what follows for a good extract. Assumes nothing.
 use mathlib.Core.Path.{_≡_, refl, sym, ap, _∙_}
-use mathlib.Core.List.{List, [], _∷_, _++_}
+use mathlib.Core.List.{List, [], _∷_}
 use mathlib.Core.Bool.{Bool, true, false}
 use mathlib.Core.Option.{Option, none, some}
-use Prim.Native.Nat.{ℕ, zero, suc, _+_, _*_, _-_, _≤_, _<_}
+use Prim.Native.Nat.{ℕ, zero, suc, _+_, _*_, _≤_, _<_}
 use native.Mathlib.Omega.{arith}
 use native.Mathlib.Nat.{add-zero, zero-add}
-use lib.Dec.{leb, ltb, eqb}
+use lib.Dec.{leb, ltb}
 use lib.ListN.{length, getD}
 use borrow.Author.Tests.{le-leb, lt-leb, lt-ltb, le-ltb, leb-true, ltb-true, eqb-true}
 use Rattle.base.specs.Pick.{pick}
 use Rattle.base.specs.Bytes.{Bytes}
-use Rattle.base.specs.Said.{Said, gives, refuses}
-use Rattle.base.specs.Checks.{Check, _!_, checked, first-fail, answer, AllHold}
+use Rattle.base.specs.Said.{gives, refuses}
+use Rattle.base.specs.Checks.{Check, _!_, checked, first-fail, AllHold}
 use Rattle.base.proofs.Bytes.{byte-at}
 use Rattle.base.proofs.Checks.{none-fails, all-hold, hold-left, hold-right, onFail, checked-fail, checked-append, append-fails, append-holds}
-use Rattle.extract.specs.Extract.{word, sectorSize, diskSectors, count, listOffset, recordOffset, total, lbaAt, lbasFrom, lbas, sizeOk, ascending, allBelow, headerChecks, lbaChecks, extractChecks, lookChecks, Good}
+use Rattle.extract.specs.Extract.{word, sectorSize, diskSectors, count, listOffset, recordOffset, total, lbaAt, lbasFrom, lbas, ascending, allBelow, lbaChecks, extractChecks, lookChecks, Good}
+use Rattle.extractrules.specs.Rules.{sizeOk, headerChecks}
 use Rattle.extract.specs.declared.Extract.{Extract}
 use Rattle.extract.specs.declared.Refusal.{Refusal}
-use Rattle.extract.specs.declared.Header.{Header}
 use Rattle.extract.specs.declared.Header.the-variants as header
 use Rattle.extract.specs.Answers.{headerSaid, headerOf, checkSays}
 

@@ -1,18 +1,14 @@
 -- One turn of the search, and what is found. Assumes nothing.
-use mathlib.Core.Path.{_≡_, refl, sym, ap, subst, _∙_}
-use mathlib.Core.List.{List, [], _∷_}
-use mathlib.Core.Bool.{Bool, true, false}
-use mathlib.Core.Logic.{_⊎_, inl, inr}
+use mathlib.Core.Path.{_≡_, refl, sym, ap}
+use mathlib.Core.List.{List}
 use Prim.Native.Nat.{ℕ, zero, suc, _+_, _*_, _-_, _≤_, _<_}
 use native.Mathlib.Omega.{arith}
-use native.Mathlib.Nat.{zero-add, add-zero}
 use native.Mathlib.Decide.{decLt}
 use lib.Dec.{eqb}
-use lib.ListN.{length, take, drop}
+use lib.ListN.{take, drop}
 use borrow.Author.Tests.{eq-eqb, ne-eqb}
 use Rattle.base.specs.Pick.{pick}
-use Rattle.extract.specs.Disk.{Store}
-use Rattle.extract.specs.Extract.{count, lbaAt, recordAt, recordsFrom, records, recordIn, recordOf, Good}
+use Rattle.extract.specs.Extract.{count, lbaAt, recordAt, recordsFrom, records, recordIn, Good}
 use Rattle.extract.specs.declared.Spot.{Spot}
 use Rattle.extract.specs.declared.Spot.the-variants.{Found, Absent}
 use Rattle.extract.specs.Spot.{SpotOf}

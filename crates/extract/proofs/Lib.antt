@@ -1,4 +1,4 @@
-pub mod Size
+pub mod Shifted
 pub mod Rising
 pub mod Good
 pub mod Halves

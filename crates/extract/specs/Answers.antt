@@ -3,7 +3,7 @@ use Prim.Native.Nat.{ℕ, _*_}
 use mathlib.Core.List.{List, [], _∷_}
 use mathlib.Core.Option.{Option, none, some}
 use Rattle.base.specs.Said.{Said, gives, refuses}
-use Rattle.base.specs.Checks.{Check, _!_, answer, first-fail}
+use Rattle.base.specs.Checks.{_!_, answer, first-fail}
 use Rattle.extract.specs.declared.Extract.{Extract}
 use Rattle.extract.specs.declared.Header.{Header}
 use Rattle.extract.specs.declared.Header.the-variants as header
@@ -11,7 +11,8 @@ use Rattle.extract.specs.declared.Outcome.{Outcome}
 use Rattle.extract.specs.declared.Outcome.the-variants as outcome
 use Rattle.extract.specs.declared.Place.{Place}
 use Rattle.extract.specs.declared.Place.the-variants as place
-use Rattle.extract.specs.Extract.{sectorSize, diskSectors, count, sizeOk, extractChecks, lookChecks}
+use Rattle.extract.specs.Extract.{sectorSize, diskSectors, count, extractChecks, lookChecks}
+use Rattle.extractrules.specs.Rules.{sizeOk}
 
 -- `Good e` gives e; `Refused r` is the refusal of its number
 abbrev pub headerSaid : Header → Said Extract

@@ -1,13 +1,14 @@
 -- The extract: its words, its records, its rules, and the disk that it stands for. Assumes nothing.
 use Prim.Native.Nat.{ℕ, zero, suc, _+_, _*_}
-use mathlib.Core.List.{List, [], _∷_, _++_, map}
+use mathlib.Core.List.{List, [], _∷_, _++_}
 use mathlib.Core.Bool.{Bool, true, false}
 use lib.Dec.{eqb, leb, ltb}
 use lib.ListN.{length, take, drop, replicate}
-use Rattle.base.specs.Pick.{pick, among}
+use Rattle.base.specs.Pick.{pick}
 use Rattle.base.specs.Bytes.{Bytes, number, bytesAt, little}
 use Rattle.base.specs.Checks.{Check, _!_, checked, AllHold}
 use Rattle.extract.specs.Disk.{Disk, Store}
+pub use Rattle.extractrules.specs.Rules.{sizeOk, mostRecords, headerChecks}
 
 -- the little-endian u32 at a byte offset
 unfoldable pub word : List ℕ → ℕ → ℕ
@@ -58,10 +59,6 @@ recordsFrom x i (suc k) = record { lba = lbaAt x i; bytes = recordAt x i } ∷ r
 abbrev pub records : List ℕ → List Store
 records x = recordsFrom x 0 (count x)
 
--- a power of two from 512 to 4,096
-abbrev pub sizeOk : ℕ → Bool
-sizeOk s = among s (512 ∷ 1024 ∷ 2048 ∷ 4096 ∷ [])
-
 -- numbers that ascend strictly
 unfoldable pub ascending : List ℕ → Bool
 ascending [] = true
@@ -72,21 +69,6 @@ ascending (a ∷ b ∷ ls) = pick (ltb a b) (ascending (b ∷ ls)) false
 unfoldable pub allBelow : ℕ → List ℕ → Bool
 allBelow d [] = true
 allBelow d (a ∷ ls) = pick (ltb a d) (allBelow d ls) false
-
--- how many records an extract may have
-abbrev pub mostRecords : ℕ
-mostRecords = 64
-
--- the rules of the header's words, in their order, for a lent length
-abbrev pub headerChecks : ℕ → ℕ → ℕ → ℕ → ℕ → ℕ → List Check
-headerChecks long size n list records total =
-    (1 ! sizeOk size) ∷
-    (1 ! leb n mostRecords) ∷
-    (1 ! eqb list 24) ∷
-    (1 ! eqb records (24 + n * 4)) ∷
-    (1 ! eqb total (24 + n * 516)) ∷
-    (1 ! eqb total long) ∷
-    []
 
 -- the rules of the LBAs, in their order, for d sectors
 abbrev pub lbaChecks : ℕ → List ℕ → List Check

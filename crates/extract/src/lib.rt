@@ -1,8 +1,9 @@
 // The extract: a header of 24 bytes, n LBAs, n records of 512 bytes; and the disk that it stands for.
+use base::Answer;
 ghost use mathlib.Core.Path.{_≡_};
-ghost use Prim.Native.Nat.{ℕ, _+_, _*_, _≤_, _<_};
+ghost use Prim.Native.Nat.{_+_, _*_, _≤_, _<_};
 ghost use lib.ListN.{length};
-ghost use Rattle.extract.specs.Extract.{Good, word, count, sizeOk, lbasFrom, lbaAt, headerChecks, lbaChecks, recordAt, recordOf, lookedUp};
+ghost use Rattle.extract.specs.Extract.{Good, word, count, lbasFrom, lbaAt, lbaChecks, recordAt, recordOf, lookedUp};
 ghost use Rattle.base.specs.Bytes.{Bytes};
 ghost use Rattle.base.specs.Checks.{first-fail};
 ghost use Rattle.extract.specs.Spot.{SpotOf};
@@ -52,60 +53,15 @@ fn word_at(x: &[u8], at: usize) -> u32
     base::get32(x, at)
 }
 
-// Is it a power of two from 512 to 4,096?
-fn size_ok(size: u32) -> bool
-    ensures { λ r. ⌜ r ≡ sizeOk size ⌝ }
-{
-    if size < 512 {
-        return false;
-    }
-    if 4096 < size {
-        return false;
-    }
-    u32::count_ones(size) == 1
-}
-
 // Where an LBA starts on the disk, in bytes: the LBA shifted by the trailing zeros of the sector size.
 pub fn byte_place(sector_size: u32, lba: u32) -> Place
     ensures { λ r. ⌜ placeSaid r ≡ placeSays «sector_size» lba ⌝ }
 {
-    if size_ok(sector_size) {
+    if extractrules::size_ok(sector_size) {
         Place::At((lba as u64) << u32::trailing_zeros(sector_size))
     } else {
         Place::Refused(Refusal { number: 1 })
     }
-}
-
-// The rules of the header's words, in their order, for a lent length.
-fn header_rules(
-    long: usize,
-    size: u32,
-    n: usize,
-    list: usize,
-    records: usize,
-    total: usize,
-) -> Outcome
-    ensures { λ r. ⌜ outcomeSaid r ≡ first-fail (headerChecks long size n list records total) ⌝ }
-{
-    if !size_ok(size) {
-        return Outcome::Refused(Refusal { number: 1 });
-    }
-    if 64 < n {
-        return Outcome::Refused(Refusal { number: 1 });
-    }
-    if list != 24 {
-        return Outcome::Refused(Refusal { number: 1 });
-    }
-    if records != 24 + n * 4 {
-        return Outcome::Refused(Refusal { number: 1 });
-    }
-    if total != 24 + n * 516 {
-        return Outcome::Refused(Refusal { number: 1 });
-    }
-    if total != long {
-        return Outcome::Refused(Refusal { number: 1 });
-    }
-    Outcome::Done
 }
 
 // The rules of the n LBAs: they ascend strictly, and are below the end of the disk. Each is read once.
@@ -142,9 +98,9 @@ pub fn check(x: &[u8]) -> Header
     let list = word_at(x, 12) as usize;
     let records = word_at(x, 16) as usize;
     let total = word_at(x, 20) as usize;
-    match header_rules(long, size, n, list, records, total) {
-        Outcome::Refused(r) => Header::Refused(r),
-        Outcome::Done => match lba_rules(x, n, disk) {
+    match extractrules::header_rules(long, size, n, list, records, total) {
+        Answer::Refused(k) => Header::Refused(Refusal { number: k }),
+        Answer::Done => match lba_rules(x, n, disk) {
             Outcome::Refused(r) => Header::Refused(r),
             Outcome::Done => Header::Good(Extract {
                 sector_size: size,

@@ -1,6 +1,7 @@
 use mathlib.Core.Path.{_≡_, sym, ap, _∙_}
 use mathlib.Core.Option.{none, some}
 use native.Mathlib.Omega.{arith}
+use Rattle.base.specs.Said.{refusal}
 use Rattle.base.specs.Checks.{first-fail}
 use Rattle.base.specs.Bytes.{Bytes}
 use Rattle.base.proofs.Bytes.{bytes-all}
@@ -11,7 +12,7 @@ use Rattle.extract.proofs.check.Statement.{statement}
 use Rattle.extract.proofs.check.Tie as tie
 use Rattle.extract.proofs.check.Reads as reads
 use Rattle.extract.proofs.check.Lts as lts
-use Rattle.extract.proofs.header_rules.Reads as header-rules-reads
+use Rattle.extractrules.proofs.header_rules.Reads as header-rules-reads
 use Rattle.extract.proofs.lba_rules.Reads as lba-rules-reads
 use Rattle.extract.proofs.word_at.Reads as word-at-reads
 
@@ -22,7 +23,7 @@ returns : tie.Need-returns
 returns c = (says-short _ (c .if1 .taken), are-bytes (c .before))
 
 -- what the header's rules said
-header-said : (c : tie.After-header-rules) → outcomeSaid (c .header-rules .result) ≡ first-fail (ofHeader (c .before .before .before .before .before .before .before .before .before .args .x .now))
+header-said : (c : tie.After-header-rules) → refusal (c .header-rules .result) ≡ first-fail (ofHeader (c .before .before .before .before .before .before .before .before .before .args .x .now))
 header-said c =
     c .header-rules .ensures
     ∙ header-words
@@ -71,15 +72,15 @@ cast-total c = search needs
 header-rules-requires : tie.Need-header-rules-requires
 header-rules-requires c κs = search needs
 
-enum-known-r : tie.Need-enum-known-r
-enum-known-r c = search needs
+enum-known-k : tie.Need-enum-known-k
+enum-known-k c = search needs
 
 enum-told : tie.Need-enum-told
 enum-told c = search needs
 
 lba-rules-requires : tie.Need-lba-rules-requires
 lba-rules-requires c κs =
-    let h = sym (header-said (c .before .before)) ∙ ap outcomeSaid (c .enum-told .given .1) in
+    let h = sym (header-said (c .before .before)) ∙ ap refusal (c .enum-told .given .1) in
     let e = c .before .before .before .before .before .before .word-at3 .ensures in
     let r = header-room _ h in
     (omega arith, omega arith)
@@ -88,24 +89,24 @@ lba-rules-requires c κs =
 lbas-said : (c : tie.After-lba-rules) → outcomeSaid (c .lba-rules .result) ≡ first-fail (ofLbas (c .before .before .before .before .before .before .before .before .before .before .before .before .args .x .now))
 lbas-said c = c .lba-rules .ensures ∙ rw (c .before .before .before .before .before .before .before .before .word-at2 .ensures, c .before .before .before .before .before .before .before .word-at3 .ensures)
 
-enum-known-r-2 : tie.Need-enum-known-r-2
-enum-known-r-2 c = search needs
+enum-known-r : tie.Need-enum-known-r
+enum-known-r c = search needs
 
 enum-told-2 : tie.Need-enum-told-2
 enum-told-2 c = search needs
 
 returns-2 : tie.Need-returns-2
 returns-2 c =
-    (says-header _ _ (c .before .before .before .before .before .before .before .before .before .before .if1 .left) (sym (header-said (c .before .before .before)) ∙ ap outcomeSaid (c .before .r .given .1)), are-bytes (c .before .before .before .before .before .before .before .before .before .before .before))
+    (says-header _ _ (c .before .before .before .before .before .before .before .before .before .before .if1 .left) (sym (header-said (c .before .before .before)) ∙ ap refusal (c .before .k .given .1)), are-bytes (c .before .before .before .before .before .before .before .before .before .before .before))
 
 returns-3 : tie.Need-returns-3
 returns-3 c =
-    let h = sym (header-said (c .before .before .before .before .before .before)) ∙ ap outcomeSaid (c .before .before .before .before .enum-told .given .1) in
-    (says-lbas _ _ (c .before .before .before .before .before .before .before .before .before .before .before .before .before .if1 .left) h (sym (lbas-said (c .before .before .before)) ∙ ap outcomeSaid (c .before .r2 .given .1)), are-bytes (c .before .before .before .before .before .before .before .before .before .before .before .before .before .before))
+    let h = sym (header-said (c .before .before .before .before .before .before)) ∙ ap refusal (c .before .before .before .before .enum-told .given .1) in
+    (says-lbas _ _ (c .before .before .before .before .before .before .before .before .before .before .before .before .before .if1 .left) h (sym (lbas-said (c .before .before .before)) ∙ ap outcomeSaid (c .before .r .given .1)), are-bytes (c .before .before .before .before .before .before .before .before .before .before .before .before .before .before))
 
 returns-4 : tie.Need-returns-4
 returns-4 c =
-    let h = sym (header-said (c .before .before .before .before .before)) ∙ ap outcomeSaid (c .before .before .before .enum-told .given .1) in
+    let h = sym (header-said (c .before .before .before .before .before)) ∙ ap refusal (c .before .before .before .enum-told .given .1) in
     let l = sym (lbas-said (c .before .before)) ∙ ap outcomeSaid (c .enum-told2 .given .1) in
     (rw (c .before .before .before .before .before .before .before .before .before .before .before .word-at .ensures, c .before .before .before .before .before .before .before .before .before .before .word-at2 .ensures, c .before .before .before .before .before .before .before .before .before .word-at3 .ensures) (says-good _ (c .before .before .before .before .before .before .before .before .before .before .before .before .if1 .left) h l), are-bytes (c .before .before .before .before .before .before .before .before .before .before .before .before .before))
 
@@ -125,10 +126,10 @@ check-spec =
     word-at-requires-6
     cast-total
     header-rules-requires
-    enum-known-r
+    enum-known-k
     enum-told
     lba-rules-requires
-    enum-known-r-2
+    enum-known-r
     enum-told-2
     returns-2
     returns-3

@@ -1,7 +1,7 @@
-use Rattle.extract.proofs.Size.{size-low, size-high, size-ones}
+use Rattle.extractrules.proofs.Size.{size-low, size-high, size-ones}
 use mathlib.Core.Path.{sym}
-use Rattle.extract.proofs.size_ok.Statement.{statement}
-use Rattle.extract.proofs.size_ok.Tie as tie
+use Rattle.extractrules.proofs.size_ok.Statement.{statement}
+use Rattle.extractrules.proofs.size_ok.Tie as tie
 
 returns : tie.Need-returns
 returns c = sym (size-low _ (c .if1 .taken))

@@ -2,11 +2,11 @@ use mathlib.Core.Path.{sym, _∙_}
 use borrow.Author.Tests.{not-true, not-false}
 use Rattle.base.proofs.Tests.{tests}
 use borrow.Author.Needs.{needs}
-use Rattle.extract.proofs.header_rules.Statement.{statement}
-use Rattle.extract.proofs.header_rules.Tie as tie
-use Rattle.extract.proofs.header_rules.Reads as reads
-use Rattle.extract.proofs.header_rules.Lts as lts
-use Rattle.extract.proofs.size_ok.Reads as size-ok-reads
+use Rattle.extractrules.proofs.header_rules.Statement.{statement}
+use Rattle.extractrules.proofs.header_rules.Tie as tie
+use Rattle.extractrules.proofs.header_rules.Reads as reads
+use Rattle.extractrules.proofs.header_rules.Lts as lts
+use Rattle.extractrules.proofs.size_ok.Reads as size-ok-reads
 
 size-ok-requires : tie.Need-size-ok-requires
 size-ok-requires c κs = search needs

@@ -1,19 +1,15 @@
 -- Sector sizes: one set bit, and the shift. Assumes nothing.
 use mathlib.Core.Path.{_≡_, refl, sym, ap, subst, _∙_}
-use mathlib.Core.List.{List, [], _∷_}
 use mathlib.Core.Bool.{Bool, true, false}
 use Prim.Native.Nat.{ℕ, zero, suc, _+_, _*_, _/_, _%_, _^_, _≤_, _<_}
 use native.Mathlib.Omega.{arith}
 use native.Mathlib.Nat.{pow-suc}
 use native.Mathlib.Decide.{decLt}
 use lib.Dec.{eqb}
-use lib.Pow.{shl-exact}
 use lib.Count.{ones, ones-step, onesIn, trailingZeros}
 use borrow.Author.Tests.{eqb-true, eqb-false, ne-eqb}
-use Rattle.base.specs.Pick.{pick, among}
-use Rattle.base.specs.Said.{gives}
-use Rattle.extract.specs.Extract.{sizeOk}
-use Rattle.extract.specs.Answers.{placeSays}
+use Rattle.base.specs.Pick.{pick}
+use Rattle.extractrules.specs.Rules.{sizeOk}
 
 -- the digits set among the lowest k
 abbrev pop : ℕ → ℕ → ℕ
@@ -145,17 +141,9 @@ pub size-high : (s : ℕ) → 4096 < s → sizeOk s ≡ false
 size-high s h = simp (ne-eqb s 512 (λ e. omega arith), ne-eqb s 1024 (λ e. omega arith), ne-eqb s 2048 (λ e. omega arith), ne-eqb s 4096 (λ e. omega arith))
 
 -- two to the trailing zeros of a sector size is the size
-abbrev Shift : ℕ → Type 0
+abbrev pub Shift : ℕ → Type 0
 Shift s = (2 ^ trailingZeros 32 s ≡ s) × (trailingZeros 32 s < 13)
 
 pub shift-size : (s : ℕ) → sizeOk s ≡ true → Shift s
 unfolding trailingZeros
 shift-size = size-cases Shift (refl, omega arith) (refl, omega arith) (refl, omega arith) (refl, omega arith)
-
--- an LBA shifted is within 64 bits: nothing is lost
-pub place-said : (s a : ℕ) → sizeOk s ≡ true → a < 2 ^ 32 → gives (a * 2 ^ trailingZeros 32 s % 2 ^ 64) ≡ placeSays s a
-unfolding placeSays
-place-said s a h b =
-    let k = shift-size s h in
-    let p : a * 2 ^ trailingZeros 32 s % 2 ^ 64 ≡ a * 2 ^ trailingZeros 32 s = shl-exact 32 (trailingZeros 32 s) 64 b (omega (arith, k .1)) in
-    rw h (ap gives (p ∙ ap (λ (n : ℕ). a * n) (k .0)))

@@ -78,55 +78,18 @@ pub fn which(l: &[u8], words: &[u8]) -> usize {
     1000
 }
 
-// The index of the first byte after `k` spaces, or the length.
-fn start_of(l: &[u8], k: usize) -> usize
-    ensures { λ r. ⌜ r ≤ length (now (l .entry)) ⌝ }
-{
-    let mut left = k;
-    let mut i = 0;
-    while i < l.len() {
-        if left == 0 {
-            return i;
-        }
-        if l[i] == b' ' {
-            left -= 1;
-        }
-        i += 1;
-    }
-    i
-}
-
-// The value of a digit, decimal or lower-case hex; 16 for any other byte.
-fn digit(b: u8) -> u8
-    ensures { λ r. ⌜ r ≤ 16 ⌝ }
-{
-    match b {
-        b'0'..=b'9' => b - b'0',
-        b'a'..=b'f' => b - b'a' + 10,
-        _ => 16,
-    }
-}
-
-// One digit more.
-fn longer(v: u64, d: u8) -> u64
-    requires { ⌜ (v < 1000000000000000000) × (d < 10) ⌝ }
-    ensures { λ r. ⌜ r < 1000000000000000000 ⌝ }
-{
-    (v * 10 + d as u64) % 1000000000000000000
-}
-
 // The decimal number after `k` spaces; 0 where there is none.
 pub fn number(l: &[u8], k: usize) -> u64
     ensures { λ r. ⌜ r < 1000000000000000000 ⌝ }
 {
     let mut v: u64 = 0;
-    let mut i = start_of(l, k);
+    let mut i = digits::start_of(l, k);
     while i < l.len() {
-        let d = digit(l[i]);
+        let d = digits::digit(l[i]);
         if 9 < d {
             return v;
         }
-        v = longer(v, d);
+        v = digits::longer(v, d);
         i += 1;
     }
     v
@@ -148,20 +111,15 @@ pub fn n8(l: &[u8], k: usize) -> u8 {
     (number(l, k) % 256) as u8
 }
 
-// The byte that two hex digits spell.
-fn spelt(high: u8, low: u8) -> u8 {
-    digit(high) % 16 * 16 + digit(low) % 16
-}
-
 // The hex digits after `k` spaces, up to the line's end, into `d` from index `at` on.
 pub fn bytes_in(l: &[u8], k: usize, d: &mut [u8], at: usize) {
-    let mut i = start_of(l, k);
+    let mut i = digits::start_of(l, k);
     let mut to = at;
     while to < d.len() {
         if l.len() - i < 2 {
             return;
         }
-        d[to] = spelt(l[i], l[i + 1]);
+        d[to] = digits::spelt(l[i], l[i + 1]);
         i += 2;
         to += 1;
     }

@@ -3,8 +3,8 @@ use Prim.Native.Nat.{_≤_, _-_}
 use borrow.Author.Needs.{needs}
 use lib.ListN.{length}
 use mathlib.Core.Path.{_≡_}
-use Rattle.numbers.proofs.run.Statement.{statement}
-use Rattle.numbers.proofs.run.Tie as tie
+use Rattle.cases.proofs.run.Statement.{statement}
+use Rattle.cases.proofs.run.Tie as tie
 
 abbrev Inv-loop : tie.InvT-loop
 Inv-loop text x₀ o₀ n₀ at₀ x o n at = (at ≤ length text) × ((length x ≡ length x₀) × (length o ≡ length o₀))

@@ -2,8 +2,8 @@
 use Prim.Native.Nat.{_≤_, _-_}
 use borrow.Author.Needs.{needs}
 use lib.ListN.{length}
-use Rattle.line.proofs.start_of.Statement.{statement}
-use Rattle.line.proofs.start_of.Tie as tie
+use Rattle.digits.proofs.start_of.Statement.{statement}
+use Rattle.digits.proofs.start_of.Tie as tie
 
 abbrev Inv-loop : tie.InvT-loop
 Inv-loop l k left₀ i₀ left i = i ≤ length l

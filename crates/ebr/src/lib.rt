@@ -1,14 +1,10 @@
 // An EBR record: what a logical partition's own boot sector says.
-use base::Answer;
 use entry::MBRPartitionEntry;
 ghost use mathlib.Core.Path.{_≡_};
-ghost use mathlib.Core.Option.{some};
-ghost use Prim.Native.Nat.{_+_, _≤_};
-ghost use lib.ListN.{length, replicate, take, drop};
-ghost use Rattle.base.specs.Put.{put};
-ghost use Rattle.base.specs.Said.{refusal};
-ghost use Rattle.base.specs.Checks.{answer, checked, first-fail};
-ghost use Rattle.ebr.specs.Ebr.{keptOf, entriesOf, ebrOf, ebrChecks, lentChecks, noKept, noEbr, ebrBytes, writeChecks, opened};
+ghost use Prim.Native.Nat.{_≤_};
+ghost use lib.ListN.{length};
+ghost use Rattle.base.specs.Checks.{answer};
+ghost use Rattle.ebr.specs.Ebr.{keptOf, entriesOf, ebrChecks, noKept, noEbr, opened};
 
 // What an EBR carries beside its entries.
 pub struct Kept {
@@ -32,11 +28,6 @@ pub struct Entries {
 pub enum Opened {
     Shut(u8),
     Ebr(Entries),
-}
-
-pub struct EbrAnswer {
-    pub answer: Answer,
-    pub ebr: EBRHeader,
 }
 
 // The code of a record.
@@ -98,77 +89,4 @@ impl EBRHeader {
             partition_2: none,
         }
     }
-
-    // Reads a lent record: 1, 3, 4.
-    pub fn read(r: &[u8]) -> EbrAnswer
-        ensures { λ a. ⌜ refusal (a .answer) ≡ first-fail (lentChecks (now (r .entry))) ⌝ }
-        ensures { λ a. ⌜ a .ebr ≡ checked (lentChecks (now (r .entry))) (λ _. noEbr) (ebrOf (now (r .entry))) ⌝ }
-    {
-        if r.len() != 512 {
-            return refuse(1);
-        }
-        match open(r) {
-            Opened::Shut(k) => refuse(k),
-            Opened::Ebr(e) => {
-                let kept = kept_of(r);
-                let first = e.partition_1;
-                let second = e.partition_2;
-                let ebr = EBRHeader {
-                    kept: kept,
-                    partition_1: first,
-                    partition_2: second,
-                };
-                EbrAnswer {
-                    answer: Answer::Done,
-                    ebr: ebr,
-                }
-            }
-        }
-    }
-
-    // Writes the record to the start of lent bytes: 4, 19.
-    pub fn write(self, d: &mut [u8]) -> Answer
-        ensures { λ a. ⌜ refusal a ≡ first-fail (writeChecks self (length (now (d .entry)))) ⌝ }
-        ensures { λ a. ⌜ now (d .exit) ≡ checked (writeChecks self (length (now (d .entry)))) (λ _. now (d .entry)) (put (now (d .entry)) 0 (ebrBytes self)) ⌝ }
-    {
-        let first = self.partition_1;
-        if !first.check() {
-            return Answer::Refused(4);
-        }
-        let second = self.partition_2;
-        if !second.check() {
-            return Answer::Refused(4);
-        }
-        if d.len() < 512 {
-            return Answer::Refused(19);
-        }
-        write_at(d, 0, self);
-        Answer::Done
-    }
-}
-
-fn refuse(k: u8) -> EbrAnswer
-    ensures { λ a. ⌜ (refusal (a .answer) ≡ some k) × (a .ebr ≡ noEbr) ⌝ }
-{
-    EbrAnswer {
-        answer: Answer::Refused(k),
-        ebr: EBRHeader::empty(),
-    }
-}
-
-// The 512 bytes of an EBR from index `at` on.
-pub fn write_at(d: &mut [u8], at: usize, h: EBRHeader)
-    requires { ⌜ at + 512 ≤ length (now d) ⌝ }
-    ensures { λ _. ⌜ now (d .exit) ≡ put (now (d .entry)) at (ebrBytes h) ⌝ }
-{
-    let kept = h.kept;
-    let code = kept.bootstrap_code;
-    base::copy_in(d, at, &code);
-    let first = h.partition_1;
-    entry::write(d, at + 446, first);
-    let second = h.partition_2;
-    entry::write(d, at + 462, second);
-    let zeros = [0u8; 32];
-    base::copy_in(d, at + 478, &zeros);
-    base::copy_in(d, at + 510, b"\x55\xAA");
 }

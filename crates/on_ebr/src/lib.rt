@@ -37,7 +37,7 @@ fn show(e: EBRHeader) {
 }
 
 fn read(x: &[u8]) {
-    let r = EBRHeader::read(x);
+    let r = ebrread::read(x);
     let answer = r.answer;
     match answer {
         Answer::Done => {
@@ -49,13 +49,13 @@ fn read(x: &[u8]) {
 }
 
 fn write(e: EBRHeader, o: &mut [u8]) {
-    let answer = e.write(o);
+    let answer = ebrwrite::write(e, o);
     lent::answered(answer, o);
 }
 
 // What reading X answers, written.
 fn again(x: &[u8], o: &mut [u8]) {
-    let r = EBRHeader::read(x);
+    let r = ebrread::read(x);
     let answer = r.answer;
     match answer {
         Answer::Done => {

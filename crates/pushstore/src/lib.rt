@@ -32,7 +32,7 @@ pub fn put_ebr(out: &mut [u8], at: usize, l: LogicalPartition, link: MBRPartitio
     let h = links::ebr_with(l, link);
     let place = l.absolute_ebr_lba;
     base::put32(out, at, place.0);
-    ebr::write_at(out, at + 4, h);
+    ebrwrite::write_at(out, at + 4, h);
 }
 
 // The logical partition in the first place.

@@ -62,7 +62,7 @@ fn put_ebr(out: &mut [u8], at: usize, l: LogicalPartition, link: MBRPartitionEnt
     ensures { λ _. ⌜ now (out .exit) ≡ put (now (out .entry)) at (ebrBytes (ebrWith l link)) ⌝ }
 {
     let h = links::ebr_with(l, link);
-    ebr::write_at(out, at, h);
+    ebrwrite::write_at(out, at, h);
 }
 
 // The records of the planned extract, from index `at` on, each once; the last EBR's link is the ending one.

@@ -3,7 +3,7 @@ use Rattle.records.proofs.put_ebr.Statement.{statement}
 use Rattle.records.proofs.put_ebr.Tie as tie
 use Rattle.records.proofs.put_ebr.Reads as reads
 use Rattle.records.proofs.put_ebr.Lts as lts
-use Rattle.ebr.proofs.write_at.Reads as write-at-reads
+use Rattle.ebrwrite.proofs.write_at.Reads as write-at-reads
 use Rattle.links.proofs.ebr_with.Reads as ebr-with-reads
 use mathlib.Core.Path.{ap, _∙_}
 use Rattle.base.specs.Put.{put}

@@ -1,8 +1,8 @@
 use borrow.Author.Tests.{not-true, not-false, lt-leb, le-leb}
 use mathlib.Core.Path.{sym, _∙_}
 use borrow.Author.Needs.{needs}
-use Rattle.ebr.proofs.EBRHeader.write.Statement.{statement}
-use Rattle.ebr.proofs.EBRHeader.write.Tie as tie
+use Rattle.ebrwrite.proofs.write.Statement.{statement}
+use Rattle.ebrwrite.proofs.write.Tie as tie
 
 check-requires : tie.Need-check-requires
 check-requires c κs = search needs

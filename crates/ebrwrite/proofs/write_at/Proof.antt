@@ -1,10 +1,10 @@
-use Rattle.ebr.proofs.Parts.{written}
+use Rattle.ebrwrite.proofs.Parts.{written}
 use native.Mathlib.Omega.{arith}
 use lib.ListN.{length}
 use mathlib.Core.Path.{_≡_}
 use borrow.Author.Needs.{needs}
-use Rattle.ebr.proofs.write_at.Statement.{statement}
-use Rattle.ebr.proofs.write_at.Tie as tie
+use Rattle.ebrwrite.proofs.write_at.Statement.{statement}
+use Rattle.ebrwrite.proofs.write_at.Tie as tie
 
 slice-aggregate-copy-in : tie.Need-slice-aggregate-copy-in
 slice-aggregate-copy-in c = search needs

@@ -8,8 +8,8 @@ use mathlib.Core.List.{List}
 use mathlib.Core.Path.{_≡_, sym, ap, _∙_}
 use Prim.Native.Nat.{ℕ}
 use borrow.Author.Needs.{needs}
-use Rattle.ebr.proofs.EBRHeader.read.Statement.{statement}
-use Rattle.ebr.proofs.EBRHeader.read.Tie as tie
+use Rattle.ebrread.proofs.read.Statement.{statement}
+use Rattle.ebrread.proofs.read.Tie as tie
 
 refuse-requires : tie.Need-refuse-requires
 refuse-requires c κs = search needs

@@ -1,0 +1,50 @@
+// An EBR record, read.
+use base::Answer;
+use ebr::EBRHeader;
+use ebr::Opened;
+ghost use mathlib.Core.Path.{_≡_};
+ghost use mathlib.Core.Option.{some};
+ghost use Rattle.base.specs.Said.{refusal};
+ghost use Rattle.base.specs.Checks.{checked, first-fail};
+ghost use Rattle.ebr.specs.Ebr.{ebrOf, lentChecks, noEbr};
+
+pub struct EbrAnswer {
+    pub answer: Answer,
+    pub ebr: EBRHeader,
+}
+
+fn refuse(k: u8) -> EbrAnswer
+    ensures { λ a. ⌜ (refusal (a .answer) ≡ some k) × (a .ebr ≡ noEbr) ⌝ }
+{
+    EbrAnswer {
+        answer: Answer::Refused(k),
+        ebr: EBRHeader::empty(),
+    }
+}
+
+// Reads a lent record: 1, 3, 4.
+pub fn read(r: &[u8]) -> EbrAnswer
+    ensures { λ a. ⌜ refusal (a .answer) ≡ first-fail (lentChecks (now (r .entry))) ⌝ }
+    ensures { λ a. ⌜ a .ebr ≡ checked (lentChecks (now (r .entry))) (λ _. noEbr) (ebrOf (now (r .entry))) ⌝ }
+{
+    if r.len() != 512 {
+        return refuse(1);
+    }
+    match ebr::open(r) {
+        Opened::Shut(k) => refuse(k),
+        Opened::Ebr(e) => {
+            let kept = ebr::kept_of(r);
+            let first = e.partition_1;
+            let second = e.partition_2;
+            let ebr = EBRHeader {
+                kept: kept,
+                partition_1: first,
+                partition_2: second,
+            };
+            EbrAnswer {
+                answer: Answer::Done,
+                ebr: ebr,
+            }
+        }
+    }
+}

@@ -107,7 +107,7 @@ pub extern "C" fn cv_chs_is_valid(
 pub extern "C" fn cv_look_up_answer(x: &[u8], lba: u32) -> u8
     ensures { λ r. ⌜ r ≡ status (lookSays (now (x .entry)) lba) ⌝ }
 {
-    of_outcome(extract::look_up_answer(x, lba))
+    of_outcome(look::look_up_answer(x, lba))
 }
 
 fn of_header(h: Header) -> u8
@@ -169,7 +169,7 @@ pub extern "C" fn cv_lay_over(x: &[u8], lba: u32, sector: &[u8], out: &mut [u8])
     ensures said { λ r. ⌜ r ≡ packed (laySays (now (x .entry)) lba (now (sector .entry)) (length (now (out .entry)))) ⌝ }
     ensures left { λ r. ⌜ now (out .exit) ≡ layLeaves (now (x .entry)) lba (now (sector .entry)) (now (out .entry)) ⌝ }
 {
-    of_laid(layover::lay_over(x, lba, sector, out))
+    of_laid(lay::lay_over(x, lba, sector, out))
 }
 
 // The listing of the table that an extract reads as, or its refusal, as text: its length; 19.

@@ -1,9 +1,6 @@
 // CHS addresses: cylinder, head, sector.
 ghost use mathlib.Core.Path.{_≡_};
 ghost use Prim.Native.Nat.{_+_, _*_, _-_, _/_, _≤_, _<_, _%_};
-ghost use lib.ListN.{length};
-ghost use Rattle.base.specs.Bytes.{bytesAt};
-ghost use Rattle.base.specs.Put.{put};
 ghost use Rattle.chs.specs.Chs.{chs, noChs, chsOf, chsBytes, addressOf, nextCylinder, behindLba, exact, aligned, lbaOf, isEmpty, isValid, placed, lba};
 
 pub struct CHS {
@@ -174,7 +171,8 @@ impl CHS {
     }
 }
 
-fn of_three(head: u8, mid: u8, low: u8) -> CHS
+// The address in three bytes, one by one.
+pub fn of_three(head: u8, mid: u8, low: u8) -> CHS
     ensures { λ r. ⌜ r ≡ chs (mid / 64 * 256 + low) head (mid % 64) ⌝ }
 {
     CHS {
@@ -182,22 +180,4 @@ fn of_three(head: u8, mid: u8, low: u8) -> CHS
         head: head,
         sector: mid % 64,
     }
-}
-
-// The address in the three bytes from index `at` on.
-pub fn read(s: &[u8], at: usize) -> CHS
-    requires { ⌜ at + 3 ≤ length (now s) ⌝ }
-    ensures { λ r. ⌜ r ≡ chsOf (bytesAt (now (s .entry)) at 3) ⌝ }
-{
-    of_three(s[at], s[at + 1], s[at + 2])
-}
-
-// The address into the three bytes from index `at` on.
-pub fn write(d: &mut [u8], at: usize, c: CHS)
-    requires { ⌜ at + 3 ≤ length (now d) ⌝ }
-    ensures { λ _. ⌜ now (d .exit) ≡ put (now (d .entry)) at (chsBytes c) ⌝ }
-{
-    d[at] = c.head;
-    d[at + 1] = (c.cylinder / 256 % 4) as u8 * 64 + c.sector % 64;
-    d[at + 2] = (c.cylinder % 256) as u8;
 }

@@ -79,8 +79,8 @@ pub fn read(s: &[u8], at: usize) -> MBRPartitionEntry
     requires { ⌜ at + 16 ≤ length (now s) ⌝ }
     ensures { λ r. ⌜ r ≡ entryAt (now (s .entry)) at ⌝ }
 {
-    let first = chs::read(s, at + 1);
-    let last = chs::read(s, at + 5);
+    let first = chsbytes::read(s, at + 1);
+    let last = chsbytes::read(s, at + 5);
     let start = base::get32(s, at + 8);
     let sectors = base::get32(s, at + 12);
     MBRPartitionEntry {
@@ -100,10 +100,10 @@ pub fn write(d: &mut [u8], at: usize, e: MBRPartitionEntry)
 {
     base::put8(d, at, e.boot);
     let first = e.first_chs;
-    chs::write(d, at + 1, first);
+    chsbytes::write(d, at + 1, first);
     base::put8(d, at + 4, e.sys);
     let last = e.last_chs;
-    chs::write(d, at + 5, last);
+    chsbytes::write(d, at + 5, last);
     base::put32(d, at + 8, e.starting_lba);
     base::put32(d, at + 12, e.sectors);
 }

@@ -3,11 +3,11 @@ use base::Answer;
 ghost use mathlib.Core.Path.{_≡_};
 ghost use Prim.Native.Nat.{_+_, _*_, _≤_, _<_};
 ghost use lib.ListN.{length};
-ghost use Rattle.extract.specs.Extract.{Good, word, count, lbasFrom, lbaAt, lbaChecks, recordAt, recordOf, lookedUp};
+ghost use Rattle.extract.specs.Extract.{Good, word, count, lbasFrom, lbaAt, lbaChecks, recordAt, recordOf};
 ghost use Rattle.base.specs.Bytes.{Bytes};
 ghost use Rattle.base.specs.Checks.{first-fail};
 ghost use Rattle.extract.specs.Spot.{SpotOf};
-ghost use Rattle.extract.specs.Answers.{headerSaid, checkSays, outcomeSaid, lookSays, placeSaid, placeSays};
+ghost use Rattle.extract.specs.Answers.{headerSaid, checkSays, outcomeSaid, placeSaid, placeSays};
 
 // Why a call is refused: document 01's number.
 pub struct Refusal {
@@ -160,38 +160,5 @@ pub fn record_of<'a>(x: &'a [u8], n: usize, lba: u32) -> &'a [u8]
     match seek(x, n, lba) {
         Spot::Absent(_) => &x[0..0],
         Spot::Found(i) => record_at(x, n, i),
-    }
-}
-
-// The record at an LBA, as a part of the extract; empty if it is absent or refused.
-pub fn look_up<'a>(x: &'a [u8], lba: u32) -> &'a [u8]
-    ensures { λ r. ⌜ now r ≡ lookedUp (now (x .entry)) lba ⌝ }
-{
-    match check(x) {
-        Header::Refused(_) => &x[0..0],
-        Header::Good(e) => {
-            let n = e.count;
-            if lba < e.disk_size {
-                record_of(x, n, lba)
-            } else {
-                &x[0..0]
-            }
-        }
-    }
-}
-
-// What looking up says beside the record: nothing (0), the extract is bad (1), or the LBA is at or past the end (2).
-pub fn look_up_answer(x: &[u8], lba: u32) -> Outcome
-    ensures { λ r. ⌜ outcomeSaid r ≡ lookSays (now (x .entry)) lba ⌝ }
-{
-    match check(x) {
-        Header::Refused(r) => Outcome::Refused(r),
-        Header::Good(e) => {
-            if lba < e.disk_size {
-                Outcome::Done
-            } else {
-                Outcome::Refused(Refusal { number: 2 })
-            }
-        }
     }
 }

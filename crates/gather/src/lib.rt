@@ -63,7 +63,7 @@ fn add(fd: i32, sector: u32, lba: u32, x: &mut [u8], n: usize) -> Step {
         return ended(0);
     }
     let mut y = [0u8; 33048];
-    match layover::lay_over(slices::part(x, n), lba, &record, &mut y) {
+    match lay::lay_over(slices::part(x, n), lba, &record, &mut y) {
         Laid::Length(m) => {
             slices::over(x, slices::part(&y, m));
             Step {

@@ -17,10 +17,10 @@ fn check(x: &[u8]) {
 
 // The record's length and checksum, then what looking up says beside it.
 fn find(x: &[u8], lba: u32) {
-    let record = extract::look_up(x, lba);
+    let record = look::look_up(x, lba);
     say::n64(record.len() as u64);
     say::n64(lent::checksum(record));
-    match extract::look_up_answer(x, lba) {
+    match look::look_up_answer(x, lba) {
         Outcome::Done => say::n8(0),
         Outcome::Refused(r) => say::n8(r.number),
     }
@@ -44,7 +44,7 @@ fn laid(a: Laid, o: &[u8]) {
 
 // The last `n` bytes of X, or all of it, are the record; the extract is what is before.
 fn lay(l: &[u8], x: &[u8], n: usize, o: &mut [u8]) {
-    let a = layover::lay_over(lent::before(x, n), line::n32(l, 1), lent::last(x, n), o);
+    let a = lay::lay_over(lent::before(x, n), line::n32(l, 1), lent::last(x, n), o);
     laid(a, o);
 }
 

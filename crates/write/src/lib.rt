@@ -184,7 +184,7 @@ fn header_good(h: MBRHeader, x: &[u8], k: Extract, out: &mut [u8]) -> Laid
                 return Laid::Refused(Refusal { number: 2 });
             }
             let first = header_record(h);
-            layover::lay_over(x, 0, &first, out)
+            lay::lay_over(x, 0, &first, out)
         }
     }
 }

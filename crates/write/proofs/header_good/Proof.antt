@@ -3,7 +3,7 @@ use Rattle.write.proofs.header_good.Statement.{statement}
 use Rattle.write.proofs.header_good.Tie as tie
 use Rattle.write.proofs.header_good.Reads as reads
 use Rattle.write.proofs.header_good.Lts as lts
-use Rattle.layover.proofs.lay_over.Reads as lay-over-reads
+use Rattle.lay.proofs.lay_over.Reads as lay-over-reads
 use Rattle.mbr.proofs.MBRHeader.check.Reads as check-reads
 use Rattle.write.proofs.header_record.Reads as header-record-reads
 use lib.ListN.{length}

@@ -1,16 +1,16 @@
 use mathlib.Core.Path.{_≡_, sym, ap, _∙_}
 use mathlib.Core.List.{[]}
 use Prim.Native.Nat.{_≤_, _<_}
 use Rattle.extract.specs.Extract.{diskSectors, recordOf, Good}
 use Rattle.extract.specs.Answers.{headerSaid, headerOf}
 use Rattle.extract.proofs.Good.{good-told, bad-told, look-bad, look-good, look-past}
 use borrow.Author.Needs.{needs}
-use Rattle.extract.proofs.look_up.Statement.{statement}
-use Rattle.extract.proofs.look_up.Tie as tie
-use Rattle.extract.proofs.look_up.Reads as reads
-use Rattle.extract.proofs.look_up.Lts as lts
+use Rattle.look.proofs.look_up.Statement.{statement}
+use Rattle.look.proofs.look_up.Tie as tie
+use Rattle.look.proofs.look_up.Reads as reads
+use Rattle.look.proofs.look_up.Lts as lts
 use Rattle.extract.proofs.check.Reads as check-reads
 use Rattle.extract.proofs.record_of.Reads as record-of-reads
 
 check-requires : tie.Need-check-requires
 check-requires c κs = search needs

@@ -9,19 +9,19 @@ use Rattle.base.proofs.Bytes.{bytes-all}
 use Rattle.extract.specs.Extract.{diskSectors, Good}
 use Rattle.extract.specs.Answers.{headerSaid, headerOf}
 use Rattle.extract.proofs.Good.{good-told, bad-told}
 use Rattle.layover.specs.Layover.{newExtract}
 use Rattle.layover.specs.Cut.{Laying}
 use Rattle.layover.specs.Answers.{laySays, layLeaves}
 use Rattle.layover.proofs.Cut.{laying-found, laying-absent}
 use Rattle.layover.proofs.Rules.{lay-bad, lay-record, lay-past, on-said, on-left}
 use borrow.Author.Needs.{needs}
-use Rattle.layover.proofs.lay_over.Statement.{statement}
-use Rattle.layover.proofs.lay_over.Tie as tie
-use Rattle.layover.proofs.lay_over.Reads as reads
-use Rattle.layover.proofs.lay_over.Lts as lts
+use Rattle.lay.proofs.lay_over.Statement.{statement}
+use Rattle.lay.proofs.lay_over.Tie as tie
+use Rattle.lay.proofs.lay_over.Reads as reads
+use Rattle.lay.proofs.lay_over.Lts as lts
 use Rattle.extract.proofs.check.Reads as check-reads
 use Rattle.extract.proofs.seek.Reads as seek-reads
-use Rattle.layover.proofs.lay_at.Reads as lay-at-reads
+use Rattle.lay.proofs.lay_at.Reads as lay-at-reads
 
 check-requires : tie.Need-check-requires
 check-requires c κs = search needs

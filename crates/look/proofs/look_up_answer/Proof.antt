@@ -1,15 +1,15 @@
 use mathlib.Core.Path.{_≡_, sym, ap, _∙_}
 use mathlib.Core.Option.{none, some}
 use Prim.Native.Nat.{_≤_, _<_}
 use Rattle.extract.specs.Extract.{diskSectors, Good}
 use Rattle.extract.specs.Answers.{headerSaid, headerOf, lookSays}
 use Rattle.extract.proofs.Good.{good-told, bad-told, look-bad, look-good, look-past}
 use borrow.Author.Needs.{needs}
-use Rattle.extract.proofs.look_up_answer.Statement.{statement}
-use Rattle.extract.proofs.look_up_answer.Tie as tie
-use Rattle.extract.proofs.look_up_answer.Reads as reads
-use Rattle.extract.proofs.look_up_answer.Lts as lts
+use Rattle.look.proofs.look_up_answer.Statement.{statement}
+use Rattle.look.proofs.look_up_answer.Tie as tie
+use Rattle.look.proofs.look_up_answer.Reads as reads
+use Rattle.look.proofs.look_up_answer.Lts as lts
 use Rattle.extract.proofs.check.Reads as check-reads
 
 check-requires : tie.Need-check-requires
 check-requires c κs = search needs

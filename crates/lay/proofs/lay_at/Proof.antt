@@ -2,13 +2,13 @@ use mathlib.Core.Path.{sym}
 use lib.ListN.{length}
 use Rattle.base.specs.Said.{gives, refuses}
 use Rattle.base.specs.Put.{put}
 use Rattle.layover.specs.Layover.{newExtract}
 use Rattle.layover.proofs.Rules.{room-many, room-short, room-said, room-left}
 use borrow.Author.Needs.{needs}
-use Rattle.layover.proofs.lay_at.Statement.{statement}
-use Rattle.layover.proofs.lay_at.Tie as tie
-use Rattle.layover.proofs.lay_at.Reads as reads
-use Rattle.layover.proofs.lay_at.Lts as lts
+use Rattle.lay.proofs.lay_at.Statement.{statement}
+use Rattle.lay.proofs.lay_at.Tie as tie
+use Rattle.lay.proofs.lay_at.Reads as reads
+use Rattle.lay.proofs.lay_at.Lts as lts
 use Rattle.extractwrite.proofs.put_extract.Reads as put-extract-reads
 
 add-m : tie.Need-add-m

@@ -2,9 +2,9 @@ use native.Mathlib.Omega.{arith}
 use lib.ListN.{length-set}
 use borrow.Author.Needs.{needs}
 use Rattle.base.proofs.Put.{laid-put}
 use Rattle.chs.specs.Chs.{chsBytes}
-use Rattle.chs.proofs.write.Statement.{statement}
-use Rattle.chs.proofs.write.Tie as tie
+use Rattle.chsbytes.proofs.write.Statement.{statement}
+use Rattle.chsbytes.proofs.write.Tie as tie
 
 slice-write-d : tie.Need-slice-write-d
 slice-write-d c = search needs

@@ -20,29 +20,7 @@ fn command(l: &[u8], x: &mut [u8], o: &mut [u8], n: Lengths) -> Lengths {
     let from = n.x;
     let to = n.o;
     say::text(line::word(l));
-    answer(l, lent::part(x, from), lent::part_mut(o, to));
+    answers::answer(l, lent::part(x, from), lent::part_mut(o, to));
     say::text(b"\n");
     n
-}
-
-fn answer(l: &[u8], x: &[u8], o: &mut [u8]) {
-    if on_chs::run(l) {
-        return;
-    }
-    if on_entry::run(l) {
-        return;
-    }
-    if on_mbr::run(l, x) {
-        return;
-    }
-    if on_record::run(l, x, o) {
-        return;
-    }
-    if on_ebr::run(l, x, o) {
-        return;
-    }
-    if on_extract::run(l, x, o) {
-        return;
-    }
-    say::text(b" unknown");
 }

@@ -3,8 +3,10 @@
 use chs::CHS;
 use chs::Lba;
 use chs::Placed;
+use entry::MBRPartitionEntry;
 use extract::Header;
 use extract::Outcome;
+use extract::Spot;
 use layover::Laid;
 use listing::Listed;
 use read::Want;
@@ -13,13 +15,18 @@ ghost use Prim.Native.Nat.{_+_, _*_, _≤_, _<_};
 ghost use lib.ListN.{length};
 ghost use Rattle.base.specs.Put.{put};
 ghost use Rattle.base.specs.Checks.{answer, checked};
-ghost use Rattle.base.specs.Said.{failure};
-ghost use Rattle.chs.specs.Chs.{chs, exact, aligned, lbaOf, isValid, placed, lba};
+ghost use Rattle.base.specs.Said.{gives, failure};
+ghost use Rattle.base.specs.Bytes.{number, little};
+ghost use mathlib.Core.List.{[], _∷_};
+ghost use Rattle.chs.specs.Chs.{chs, chsBytes, chsOf, exact, aligned, lbaOf, isValid, placed, lba};
+ghost use Rattle.entry.specs.Entry.{extended};
+ghost use Rattle.extract.specs.Extract.{Good, count, lbas};
 ghost use Rattle.extract.specs.Answers.{outcomeSaid, lookSays, headerSaid, checkSays};
 ghost use Rattle.layover.specs.Answers.{laidSaid, laySays, layLeaves};
 ghost use Rattle.listing.specs.Listing.{listed, listingChecks, listing};
 ghost use Rattle.read.specs.Wanted.{wantedSaid, wantedSays};
 ghost use Rattle.abi.specs.Packed.{upper, packed, packedChs, chsWord, status, packedOption};
+ghost use Rattle.abi.specs.Place.{recordPlace, lookedPlace};
 
 // A refusal's number in the upper half.
 pub fn upper(k: u8) -> u64
@@ -102,6 +109,71 @@ pub extern "C" fn cv_chs_is_valid(
     c.is_valid(cylinders, heads, sectors)
 }
 
+// The three bytes of an address as a number, little-endian; higher bits are dropped.
+#[no_mangle]
+pub extern "C" fn cv_chs_to_bytes(cylinder: u16, head: u8, sector: u8) -> u32
+    ensures { λ r. ⌜ r ≡ number little (chsBytes (chs cylinder head sector)) ⌝ }
+{
+    let c = CHS::new(cylinder, head, sector);
+    let b = c.to_bytes();
+    base::wide(b[0]) + base::wide(b[1]) * 256 + base::wide(b[2]) * 65536
+}
+
+// The address in three bytes.
+#[no_mangle]
+pub extern "C" fn cv_chs_from_bytes(one: u8, two: u8, three: u8) -> u64
+    ensures { λ r. ⌜ r ≡ packedChs (gives (chsOf (one ∷ two ∷ three ∷ []))) ⌝ }
+{
+    of_chs(CHS::of_bytes([one, two, three]))
+}
+
+// Whether a type is an extended partition's.
+#[no_mangle]
+pub extern "C" fn cv_is_extended(sys: u8) -> bool
+    ensures { λ r. ⌜ r ≡ extended sys ⌝ }
+{
+    let mut e = MBRPartitionEntry::empty();
+    e.sys = sys;
+    e.is_extended()
+}
+
+// Where record number i of n stands in a checked extract.
+fn offset(n: usize, i: usize) -> u64
+    requires { ⌜ (n ≤ 64) × (i < n) ⌝ }
+    ensures { λ r. ⌜ r ≡ 24 + n * 4 + i * 512 ⌝ }
+{
+    (24 + n * 4 + i * 512) as u64
+}
+
+// Where the record of an LBA stands in a checked extract; 255 in the upper half for none.
+fn place_of(x: &[u8], n: usize, lba: u32) -> u64
+    requires { ⌜ (n ≡ count (now x)) × Good (now x) ⌝ }
+    ensures { λ r. ⌜ r ≡ packedOption (gives (recordPlace (24 + count (now (x .entry)) * 4) (lbas (now (x .entry))) lba)) ⌝ }
+{
+    match extract::seek(x, n, lba) {
+        Spot::Absent(_) => upper(255),
+        Spot::Found(i) => offset(n, i),
+    }
+}
+
+// Where the record of a sector stands in the extract; 255 in the upper half if it is absent or refused.
+#[no_mangle]
+pub extern "C" fn cv_look_up(x: &[u8], lba: u32) -> u64
+    ensures { λ r. ⌜ r ≡ packedOption (gives (lookedPlace (now (x .entry)) lba)) ⌝ }
+{
+    match extract::check(x) {
+        Header::Refused(_) => upper(255),
+        Header::Good(e) => {
+            let n = e.count;
+            if lba < e.disk_size {
+                place_of(x, n, lba)
+            } else {
+                upper(255)
+            }
+        }
+    }
+}
+
 // What looking up says: 0, 1 or 2.
 #[no_mangle]
 pub extern "C" fn cv_look_up_answer(x: &[u8], lba: u32) -> u8
@@ -119,7 +191,8 @@ fn of_header(h: Header) -> u8
     }
 }
 
-fn of_laid(l: Laid) -> u64
+// A new extract's length, or the refusal's number in the upper half.
+pub fn of_laid(l: Laid) -> u64
     ensures { λ r. ⌜ r ≡ packed (laidSaid l) ⌝ }
 {
     match l {

@@ -2,9 +2,10 @@
 use Prim.Native.Nat.{ℕ}
 use mathlib.Core.List.{List}
 use lib.ListN.{length}
-use Rattle.base.specs.Said.{Said, gives, refuses, andThen}
+use Rattle.base.specs.Said.{Said, gives, refuses, andThen, failure}
 use Rattle.base.specs.Checks.{checked, answer}
 use Rattle.table.specs.declared.MBR.{MBR}
+use Rattle.abi.specs.Packed.{status}
 use Rattle.block.specs.Block.{blockBytes, tableIn, putChecks, blockChecks}
 use Rattle.read.specs.Read.{Table, tableOf, readSays}
 use Rattle.push.specs.Push.{pushSays, pushTable}
@@ -27,8 +28,7 @@ beside t room v = answer (putChecks t room) v
 
 -- the number of a refusal, or 0
 abbrev pub number : Said ℕ → ℕ
-number (gives v) = 0
-number (refuses k) = k
+number s = status (failure s)
 
 -- a lent block after a table is put there: as before if there is none, or if it is refused
 abbrev pub blockAfter : List ℕ → Said MBR → List ℕ

@@ -12,7 +12,7 @@ ghost use Rattle.abi.specs.Packed.{packed};
 ghost use Rattle.abitable.specs.Blocks.{blockSays, tableSays, beside, number, blockAfter, pushOn, pushedOn, removedOn, alone};
 
 // Puts a table into a lent block: 6, 101, or 0.
-fn put_alone(t: MBR, out: &mut [u8]) -> u8
+pub fn put_alone(t: MBR, out: &mut [u8]) -> u8
     ensures { λ r. ⌜ r ≡ number (beside t (length (now (out .entry))) 0) ⌝ }
     ensures { λ r. ⌜ now (out .exit) ≡ blockAfter (now (out .entry)) (gives t) ⌝ }
 {

@@ -1,0 +1,35 @@
+// The test for a sound table for programs in C and Rust, on a table as a block. The answer is one number as in `abi`.
+use base::Answer;
+use soundtest::Soundness;
+use table::MBR;
+ghost use mathlib.Core.Path.{_≡_};
+ghost use Rattle.base.specs.Said.{andThen};
+ghost use Rattle.abi.specs.Packed.{packedBool};
+ghost use Rattle.abitable.specs.Blocks.{blockSays};
+ghost use Rattle.abisound.specs.Sound.{soundSays};
+
+fn sound_on(t: MBR) -> u64
+    ensures { λ r. ⌜ r ≡ packedBool (soundSays t) ⌝ }
+{
+    match soundtest::sound(t) {
+        Soundness::Sound => 1,
+        Soundness::Unsound => 0,
+        Soundness::Refused(k) => abi::upper(k),
+    }
+}
+
+// Whether the table of a block is sound, 1 or 0; the block's refusals.
+#[no_mangle]
+pub extern "C" fn cv_is_sound(b: &[u8]) -> u64
+    ensures { λ r. ⌜ r ≡ packedBool (andThen (blockSays (now (b .entry))) soundSays) ⌝ }
+{
+    let a = blockread::get(b);
+    let answer = a.answer;
+    match answer {
+        Answer::Refused(k) => abi::upper(k),
+        Answer::Done => {
+            let t = a.table;
+            sound_on(t)
+        }
+    }
+}

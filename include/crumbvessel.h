@@ -1,7 +1,7 @@
 /* Crumbvessel for programs in C: MBR tables from extracts, as bytes and numbers. x86-64 Linux.
  *
- * Link the archives of the functions in use: libabi.a, libabicareful.a, libabitable.a, libabilook.a,
- * libabiwrite.a (`rt staticlib NAME` makes libNAME.a).
+ * Link the archives of the functions in use: libabi.a, libabicareful.a, libabitable.a, libabiedit.a, libabilook.a,
+ * libabisound.a, libabiwrite.a (`rt staticlib NAME` makes libNAME.a).
  *
  * Lent bytes are an address and a length. The address is never null, also where the length is 0. Bytes that a function
  * writes overlap nothing else that the same call is lent. No function keeps an address or allocates. A refusal leaves
@@ -50,7 +50,7 @@ enum cv_refusal {
     /* none of the library's own: */
     CV_BLOCK_LENGTH = 101,     /* a lent block is not CV_BLOCK bytes */
     CV_BLOCK_TAG = 102,        /* a tag in a block is neither 0 nor 1 */
-    CV_NOTHING = 255           /* no refusal: there is no such value (cv_wanted, cv_find_at_sector) */
+    CV_NOTHING = 255           /* no refusal: there is no such value */
 };
 
 /* An answer of 64 bits: the value in the lower half, or a refusal in the upper one. */
@@ -95,7 +95,8 @@ static inline uint8_t cv_sector(uint64_t answer) { return (uint8_t)answer; }
 #define CV_EBR_FIRST 27                         /* address */
 #define CV_EBR_LAST 31                          /* tag; address */
 #define CV_EBR_CODE 36                          /* 446 bytes */
-/* In an entry of 18: flag, first address, type, last address, start, sectors. An address: cylinder u16, head, sector. */
+/* In an entry of CV_ENTRY bytes: flag, first address, type, last address, start, sectors. An address: cylinder u16, head, sector. */
+#define CV_ENTRY 18
 #define CV_ENTRY_FIRST 1
 #define CV_ENTRY_TYPE 5
 #define CV_ENTRY_LAST 6
@@ -111,8 +112,17 @@ uint64_t cv_chs_from_lba_aligned(uint32_t lba, uint16_t cylinders, uint8_t heads
 /* The sector of an address; 7. */
 uint64_t cv_chs_to_lba(uint16_t cylinder, uint8_t head, uint8_t sector, uint8_t heads, uint8_t sectors);
 bool cv_chs_is_valid(uint16_t cylinder, uint8_t head, uint8_t sector, uint16_t cylinders, uint8_t heads, uint8_t sectors);
+/* The three bytes of an address as a number, the first byte lowest; higher bits of cylinder and sector are dropped. */
+uint32_t cv_chs_to_bytes(uint16_t cylinder, uint8_t head, uint8_t sector);
+/* The address in three bytes. */
+uint64_t cv_chs_from_bytes(uint8_t one, uint8_t two, uint8_t three);
+/* Whether a type is an extended partition's: 05, 0F, 85, C5, D5. */
+bool cv_is_extended(uint8_t type);
 /* 0, or 1 for an extract that breaks a rule. */
 uint8_t cv_extract_check(const uint8_t *x, size_t x_length);
+/* The offset in the extract at which the record of a sector stands, 512 bytes; CV_NOTHING if it is absent or refused:
+ * cv_look_up_answer says which. */
+uint64_t cv_look_up(const uint8_t *x, size_t x_length, uint32_t lba);
 /* What looking up a sector says: 0, 1 or 2. */
 uint8_t cv_look_up_answer(const uint8_t *x, size_t x_length, uint32_t lba);
 /* The sector that reading looks at first and the extract has no record for; 1; CV_NOTHING. */
@@ -140,13 +150,39 @@ uint8_t cv_read(const uint8_t *x, size_t x_length, uint8_t *out, size_t out_leng
 uint64_t cv_push(const uint8_t *block, size_t block_length, uint8_t type, uint32_t start, uint32_t sectors, uint8_t *out,
                  size_t out_length);
 /* Removal of logical partition `number` from the table of a block, the new table as a second block: 0; 101, 6, 102, 17,
- * 101. */
+ * 101. The removed partition is slot `number - 5` of the given block. */
 uint8_t cv_remove(const uint8_t *block, size_t block_length, uint32_t number, uint8_t *out, size_t out_length);
+
+/* libabiedit.a */
+
+/* Removal of the partition at a sector from the table of a block, the new table as a second block: 0; 101, 6, 102, 7, 15,
+ * 101. Its number is what cv_find_at_sector says of the given block. */
+uint8_t cv_remove_at_sector(const uint8_t *block, size_t block_length, uint32_t sector, uint8_t *out, size_t out_length);
+/* A new table for the disk of an extract, as a block: 0; 1, 101. The four bytes of the disk signature are the number's,
+ * little-endian. */
+uint8_t cv_new_from(const uint8_t *x, size_t x_length, uint32_t disk_signature, uint8_t *out, size_t out_length);
+/* The table of a block with the sector size and D of an extract, as a second block: 0; 101, 6, 102, 1, 101. */
+uint8_t cv_update_from(const uint8_t *block, size_t block_length, const uint8_t *x, size_t x_length, uint8_t *out,
+                       size_t out_length);
 
 /* libabilook.a */
 
 /* The number of the partition at a sector, in the table of a block; 101, 6, 102, 7; CV_NOTHING. */
 uint64_t cv_find_at_sector(const uint8_t *block, size_t block_length, uint32_t sector);
+/* How many partitions the table of a block has, the four primaries always counted; 101, 6, 102. */
+uint64_t cv_len(const uint8_t *block, size_t block_length);
+/* The entry of partition `number`, 1 to 4 primary, 5 and up logical, as CV_ENTRY bytes at the start of `out`: 0; 101, 6,
+ * 102; CV_NOTHING if there is none; 19. */
+uint8_t cv_get(const uint8_t *block, size_t block_length, uint32_t number, uint8_t *out, size_t out_length);
+/* Whether the geometry in the table of a block is complete, 1 or 0; 101, 6, 102. */
+uint64_t cv_check_geometry(const uint8_t *block, size_t block_length);
+/* The sectors of a cylinder by the geometry in the table of a block, heads times sectors; 101, 6, 102. */
+uint64_t cv_get_cylinder_size(const uint8_t *block, size_t block_length);
+
+/* libabisound.a */
+
+/* Whether the table of a block is sound, 1 or 0; 101, 6, 102. */
+uint64_t cv_is_sound(const uint8_t *block, size_t block_length);
 
 /* libabiwrite.a */
 

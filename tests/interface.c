@@ -77,6 +77,14 @@ static void addresses(void)
     IS(cv_chs_from_lba_aligned(0, 10, 2, 3), REFUSED(CV_ARITHMETIC));
     IS(cv_chs_to_lba(0, 32, 33, 255, 63), 2048);
     IS(cv_chs_to_lba(0, 0, 0, 255, 63), REFUSED(CV_ARITHMETIC));
+    IS(cv_chs_to_bytes(0, 32, 33), 0x002120);
+    IS(cv_chs_to_bytes(514, 3, 5), 0x028503);
+    IS(cv_chs_to_bytes(1023, 254, 63), 0xFFFFFE);
+    IS(cv_chs_to_bytes(1024, 0, 64), 0);
+    IS(cv_chs_from_bytes(0x03, 0x85, 0x02), 514 << 16 | 3 << 8 | 5);
+    for (int type = 0; type < 256; type++)
+        IS(cv_is_extended((uint8_t)type),
+           type == 0x05 || type == 0x0F || type == 0x85 || type == 0xC5 || type == 0xD5);
 }
 
 static void extracts(void)
@@ -88,6 +96,11 @@ static void extracts(void)
     IS(cv_extract_check(k, 0), CV_BAD_EXTRACT);
     IS(cv_look_up_answer(k, sizeof k, 20479), CV_DONE);
     IS(cv_look_up_answer(k, sizeof k, 20480), CV_PAST_DISK);
+    IS(cv_look_up(k, sizeof k, 0), 32);
+    IS(cv_look_up(k, sizeof k, 4096), 544);
+    IS(cv_look_up(k, sizeof k, 20479), REFUSED(CV_NOTHING));
+    IS(cv_look_up(k, sizeof k, 20480), REFUSED(CV_NOTHING));
+    IS(cv_look_up(k, sizeof k - 1, 0), REFUSED(CV_NOTHING));
     IS(cv_wanted(k, sizeof k), REFUSED(CV_NOTHING));
     memset(out, 7, sizeof out);
     IS(cv_listing(k, sizeof k, out, sizeof out - 1), REFUSED(CV_OUTPUT_SHORT));
@@ -198,6 +211,86 @@ static void table_refusals(void)
     IS(all(u, sizeof u, 7), true);
 }
 
+/* K's table, looked at. */
+static void looks(void)
+{
+    static uint8_t t[CV_BLOCK];
+    uint8_t out[CV_ENTRY + 1];
+    IS(cv_read(k, sizeof k, t, sizeof t), CV_DONE);
+    IS(cv_len(t, sizeof t), 5);
+    IS(cv_len(t, sizeof t - 1), REFUSED(CV_BLOCK_LENGTH));
+    IS(cv_is_sound(t, sizeof t), 1);
+    IS(cv_is_sound(t, sizeof t - 1), REFUSED(CV_BLOCK_LENGTH));
+    memset(out, 7, sizeof out);
+    IS(cv_get(t, sizeof t, 0, out, sizeof out), CV_NOTHING);
+    IS(cv_get(t, sizeof t, 6, out, 0), CV_NOTHING);
+    IS(cv_get(t, sizeof t, 5, out, CV_ENTRY - 1), CV_OUTPUT_SHORT);
+    IS(cv_get(t, sizeof t - 1, 5, out, sizeof out), CV_BLOCK_LENGTH);
+    IS(all(out, sizeof out, 7), true);
+    IS(cv_get(t, sizeof t, 5, out, sizeof out), CV_DONE);
+    IS(memcmp(out, t + CV_LOGICAL(0), CV_ENTRY), 0);
+    IS(out[CV_ENTRY], 7);
+    IS(cv_get(t, sizeof t, 1, out, CV_ENTRY), CV_DONE);
+    IS(memcmp(out, t + CV_PRIMARY(0), CV_ENTRY), 0);
+    IS(cv_get(t, sizeof t, 4, out, sizeof out), CV_DONE);
+    IS(all(out, CV_ENTRY, 0), true);
+    IS(cv_check_geometry(t, sizeof t), 0);
+    IS(cv_get_cylinder_size(t, sizeof t), 0);
+    memcpy(t + CV_CYLINDERS, "\xFF\x03\xFF\x3F", 4);
+    IS(cv_check_geometry(t, sizeof t), 1);
+    IS(cv_get_cylinder_size(t, sizeof t), 16065);
+    t[CV_SECTORS] = 64;
+    IS(cv_check_geometry(t, sizeof t), 0);
+    t[CV_LOGICAL(0) + CV_ENTRY_TYPE] = 0;
+    IS(cv_is_sound(t, sizeof t), 0);
+    t[CV_LOGICAL(23) + CV_EBR_LAST] = 2;
+    IS(cv_check_geometry(t, sizeof t), REFUSED(CV_BLOCK_TAG));
+    IS(cv_get(t, sizeof t, 5, out, sizeof out), CV_BLOCK_TAG);
+    t[CV_COUNT] = 25;
+    IS(cv_len(t, sizeof t), REFUSED(CV_TOO_MANY));
+    IS(cv_get_cylinder_size(t, sizeof t), REFUSED(CV_TOO_MANY));
+}
+
+/* Removal by a sector, a new table, and K's table on another disk. */
+static void edits(void)
+{
+    static uint8_t t[CV_BLOCK], u[CV_BLOCK];
+    uint8_t larger[CV_EXTRACT(2)];
+    IS(cv_read(k, sizeof k, t, sizeof t), CV_DONE);
+    memset(u, 7, sizeof u);
+    IS(cv_remove_at_sector(t, sizeof t, 8192, u, sizeof u), CV_NOT_FOUND);
+    IS(cv_remove_at_sector(t, sizeof t, 6144, u, sizeof u - 1), CV_BLOCK_LENGTH);
+    IS(cv_remove_at_sector(t, sizeof t - 1, 6144, u, sizeof u), CV_BLOCK_LENGTH);
+    IS(cv_new_from(k, sizeof k - 1, 1, u, sizeof u), CV_BAD_EXTRACT);
+    IS(cv_new_from(k, sizeof k, 1, u, sizeof u - 1), CV_BLOCK_LENGTH);
+    IS(cv_update_from(t, sizeof t, k, sizeof k - 1, u, sizeof u), CV_BAD_EXTRACT);
+    IS(cv_update_from(t, sizeof t - 1, k, 0, u, sizeof u), CV_BLOCK_LENGTH);
+    IS(all(u, sizeof u, 7), true);
+    IS(cv_remove_at_sector(t, sizeof t, 6144, u, sizeof u), CV_DONE);
+    IS(get32(u + CV_COUNT), 0);
+    IS(u[CV_PRIMARY(0) + CV_ENTRY_TYPE], 0x05);
+    memcpy(larger, k, sizeof k);
+    put32(larger, 4096);
+    put32(larger + 4, 40960);
+    IS(cv_update_from(t, sizeof t, larger, sizeof larger, u, sizeof u), CV_DONE);
+    IS(get32(u + CV_SECTOR_SIZE), 4096);
+    IS(get32(u + CV_DISK_SIZE), 40960);
+    IS(memcmp(u + CV_ALIGN, t + CV_ALIGN, CV_BLOCK - CV_ALIGN), 0);
+    t[CV_PRIMARY(0) + CV_ENTRY_TYPE] = 0x83;
+    IS(cv_remove_at_sector(t, sizeof t, 20479, u, sizeof u), CV_DONE);
+    IS(all(u + CV_PRIMARY(0), CV_ENTRY, 0), true);
+    IS(get32(u + CV_COUNT), 1);
+    put32(t + CV_PRIMARY(0) + CV_ENTRY_SECTORS, 0xFFFFFFFF);
+    IS(cv_remove_at_sector(t, sizeof t, 6144, u, sizeof u), CV_ARITHMETIC);
+    IS(cv_new_from(k, sizeof k, 0x04030201, u, sizeof u), CV_DONE);
+    IS(memcmp(u + CV_DISK_SIGNATURE, "\x01\x02\x03\x04", 4), 0);
+    IS(get32(u + CV_DISK_SIZE), 20480);
+    IS(get32(u + CV_ALIGN), 2048);
+    IS(get32(u + CV_COUNT), 0);
+    IS(all(u + CV_PRIMARY(0), 4 * CV_ENTRY, 0), true);
+    IS(memcmp(u + CV_BOOT_SIGNATURE, "\x55\xAA", 2), 0);
+}
+
 /* push on K, written: it lists as after the careful push. */
 static void writing(void)
 {
@@ -229,6 +322,8 @@ int main(void)
     careful_changes();
     tables();
     table_refusals();
+    looks();
+    edits();
     writing();
     printf("%d of %d answers as document 01 has them\n", tried - failed, tried);
     return failed != 0;

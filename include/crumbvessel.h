@@ -95,7 +95,7 @@ static inline uint8_t cv_sector(uint64_t answer) { return (uint8_t)answer; }
 #define CV_EBR_FIRST 27                         /* address */
 #define CV_EBR_LAST 31                          /* tag; address */
 #define CV_EBR_CODE 36                          /* 446 bytes */
-/* In an entry of CV_ENTRY bytes: flag, first address, type, last address, start, sectors. An address: cylinder u16, head, sector. */
+/* An entry: flag, first address, type, last address, start, sectors. An address: cylinder u16, head, sector. */
 #define CV_ENTRY 18
 #define CV_ENTRY_FIRST 1
 #define CV_ENTRY_TYPE 5

@@ -11,7 +11,7 @@ ghost use Rattle.base.specs.Checks.{checked, first-fail};
 ghost use Rattle.block.specs.Block.{blockBytes, putChecks};
 
 // The whole block.
-fn put_all(d: &mut [u8], t: MBR)
+pub fn put_all(d: &mut [u8], t: MBR)
     requires { ⌜ (length (now d) ≡ 12108) × (t .count ≤ 24) ⌝ }
     ensures { λ _. ⌜ now (d .exit) ≡ blockBytes t ⌝ }
 {

@@ -36,7 +36,7 @@ pub fn all_tagged(b: &[u8]) -> bool
 }
 
 // The header in its 520 bytes.
-fn get_header(s: &[u8]) -> MBRHeader
+pub fn get_header(s: &[u8]) -> MBRHeader
     requires { ⌜ length (now s) ≡ 520 ⌝ }
     ensures { λ r. ⌜ r ≡ headerIn (now (s .entry)) ⌝ }
 {

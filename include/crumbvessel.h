@@ -186,10 +186,11 @@ uint64_t cv_is_sound(const uint8_t *block, size_t block_length);
 
 /* libabiwrite.a */
 
-/* Writes the table of a block over an extract, the new extract to `out`: its length, at most CV_EXTRACT(64); 101, 6, 102,
- * 1, 3, 4, 2, 7, 13, 14, 18, 22, 19. The table as writing leaves it is not answered: read the new extract. */
+/* Writes the table of a block over an extract, the new extract to `out`: its length, at most CV_EXTRACT(64); and the table
+ * as writing leaves it to a second block, `after`. 101, 6, 102 of the block; 101 of `after`; 1, 3, 4, 2, 7, 13, 14, 18, 22,
+ * 19. */
 uint64_t cv_write_into(const uint8_t *block, size_t block_length, const uint8_t *x, size_t x_length, uint8_t *out,
-                       size_t out_length);
+                       size_t out_length, uint8_t *after, size_t after_length);
 
 #ifdef __cplusplus
 }

@@ -291,26 +291,36 @@ static void edits(void)
     IS(memcmp(u + CV_BOOT_SIGNATURE, "\x55\xAA", 2), 0);
 }
 
-/* push on K, written: it lists as after the careful push. */
+/* push on K, written: it lists as after the careful push, and the table afterwards is the one that was pushed. */
 static void writing(void)
 {
     static const char text[] =
         "disk 20480 align 2048 logical 2\n1 05 00 4096 16384\n5 83 00 6144 2048\n6 83 00 10240 2048\n";
-    static uint8_t t[CV_BLOCK], u[CV_BLOCK];
+    static uint8_t t[CV_BLOCK], u[CV_BLOCK], v[CV_BLOCK];
     uint8_t out[CV_EXTRACT(3)], list[CV_LISTING];
     IS(cv_read(k, sizeof k, t, sizeof t), CV_DONE);
     IS(cv_push(t, sizeof t, 0x83, 8192, 4096, u, sizeof u), 6);
     memset(out, 7, sizeof out);
-    IS(cv_write_into(u, sizeof u, k, sizeof k, out, sizeof out - 1), REFUSED(CV_OUTPUT_SHORT));
-    IS(cv_write_into(u, sizeof u, k, sizeof k - 1, out, sizeof out), REFUSED(CV_BAD_EXTRACT));
-    IS(cv_write_into(u, sizeof u - 1, k, sizeof k, out, sizeof out), REFUSED(CV_BLOCK_LENGTH));
+    memset(v, 7, sizeof v);
+    IS(cv_write_into(u, sizeof u, k, sizeof k, out, sizeof out - 1, v, sizeof v), REFUSED(CV_OUTPUT_SHORT));
+    IS(cv_write_into(u, sizeof u, k, sizeof k - 1, out, sizeof out, v, sizeof v), REFUSED(CV_BAD_EXTRACT));
+    IS(cv_write_into(u, sizeof u, k, sizeof k - 1, out, sizeof out, v, sizeof v - 1), REFUSED(CV_BLOCK_LENGTH));
+    IS(cv_write_into(u, sizeof u - 1, k, sizeof k, out, sizeof out, v, sizeof v), REFUSED(CV_BLOCK_LENGTH));
     u[CV_BOOT_SIGNATURE]++;
-    IS(cv_write_into(u, sizeof u, k, sizeof k, out, sizeof out), REFUSED(CV_SIGNATURE));
+    IS(cv_write_into(u, sizeof u, k, sizeof k, out, sizeof out, v, sizeof v), REFUSED(CV_SIGNATURE));
     u[CV_BOOT_SIGNATURE]--;
     IS(all(out, sizeof out, 7), true);
-    IS(cv_write_into(u, sizeof u, k, sizeof k, out, sizeof out), sizeof out);
+    IS(all(v, sizeof v, 7), true);
+    IS(cv_write_into(u, sizeof u, k, sizeof k, out, sizeof out, v, sizeof v), sizeof out);
     IS(cv_listing(out, sizeof out, list, sizeof list), sizeof text - 1);
     IS(memcmp(list, text, sizeof text - 1), 0);
+    IS(memcmp(u, v, sizeof v), 0);
+    /* the first logical partition's EBR is put at X, without link sectors */
+    IS(cv_remove(u, sizeof u, 5, t, sizeof t), CV_DONE);
+    IS(t[CV_LOGICAL(0) + CV_EBR_SECTORS], 1);
+    IS(cv_write_into(t, sizeof t, k, sizeof k, out, sizeof out, v, sizeof v), CV_EXTRACT(2));
+    IS(get32(v + CV_LOGICAL(0) + CV_EBR_LBA), 4096);
+    IS(v[CV_LOGICAL(0) + CV_EBR_SECTORS], 0);
 }
 
 int main(void)

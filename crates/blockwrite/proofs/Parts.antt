@@ -10,7 +10,7 @@ use Rattle.table.specs.declared.MBR.{MBR}
 use Rattle.block.specs.Block.{headerPart, frontPart, slotsPart, blockBytes}
 
 -- as many bytes as there are
-whole : (d xs : List ℕ) → length xs ≡ length d → put d 0 xs ≡ xs
+pub whole : (d xs : List ℕ) → length xs ≡ length d → put d 0 xs ≡ xs
 unfolding put
 whole d xs h =
     let l : length d ≤ 0 + length xs = omega arith in

@@ -1,0 +1,55 @@
+use mathlib.Core.Path.{sym, ap, _∙_}
+use lib.ListN.{length}
+use Rattle.base.specs.Said.{refusal}
+use Rattle.abitable.specs.Blocks.{blockSays}
+use Rattle.abitable.proofs.Laws.{block-refused, block-done}
+use Rattle.abifree.proofs.Laws.{runs-refused, runs-done}
+use borrow.Author.Needs.{needs}
+use Rattle.abifree.proofs.cv_find_free_sectors.Statement.{statement}
+use Rattle.abifree.proofs.cv_find_free_sectors.Tie as tie
+
+get-requires : tie.Need-get-requires
+get-requires c κs = search needs
+
+enum-known-answer : tie.Need-enum-known-answer
+enum-known-answer c = search needs
+
+upper-requires : tie.Need-upper-requires
+upper-requires c κs = search needs
+
+enum-told : tie.Need-enum-told
+enum-told c = search needs
+
+free-on-requires : tie.Need-free-on-requires
+free-on-requires c κs = search needs
+
+returns : tie.Need-returns
+returns c =
+    let a = c .before .before .before .before .before .before .before .args in
+    let p = c .before .before .before .before .get .ensures in
+    let s = block-refused (a .b .now) _ (sym (p .0) ∙ ap refusal (c .before .before .answer .given .1)) in
+    runs-refused (blockSays (a .b .now)) _ _ (a .out .now) s (c .upper .ensures)
+
+same-length : tie.Need-same-length
+same-length c = search needs
+
+returns-2 : tie.Need-returns-2
+returns-2 c =
+    let a = c .before .before .before .before .before .before .before .before .before .before .args in
+    let p = c .before .before .before .before .before .before .before .get .ensures in
+    let s = block-done (a .b .now) _ (sym (p .0) ∙ ap refusal (c .before .before .before .before .before .enum-told .given .1)) (p .1) in
+    let q = c .before .before .free-on .ensures in
+    runs-done (blockSays (a .b .now)) _ _ (a .out .now) _ s (q .0) (q .1)
+
+pub cv-find-free-sectors-spec : {M : Type 1} → statement M
+cv-find-free-sectors-spec =
+    tie.close
+    (tie.spec
+    get-requires
+    enum-known-answer
+    upper-requires
+    enum-told
+    free-on-requires
+    returns
+    same-length
+    returns-2)

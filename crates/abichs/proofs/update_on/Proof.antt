@@ -1,0 +1,49 @@
+use mathlib.Core.Path.{sym, ap, _∙_}
+use Rattle.base.specs.Said.{refusal}
+use Rattle.push.specs.Answers.{geometryIn}
+use Rattle.push.specs.Address.{updateChs}
+use Rattle.abichs.proofs.Laws.{addresses-refused, addresses-done}
+use borrow.Author.Needs.{needs}
+use Rattle.abichs.proofs.update_on.Statement.{statement}
+use Rattle.abichs.proofs.update_on.Tie as tie
+
+update-chs-requires : tie.Need-update-chs-requires
+update-chs-requires c κs = search needs
+
+enum-known-answer : tie.Need-enum-known-answer
+enum-known-answer c = search needs
+
+enum-told : tie.Need-enum-told
+enum-told c = search needs
+
+put-slot-requires : tie.Need-put-slot-requires
+put-slot-requires c κs = search needs
+
+returns : tie.Need-returns
+returns c =
+    let a = c .before .before .before .before .before .args in
+    let p = c .before .before .before .update-chs .ensures in
+    let s = updateChs (geometryIn (a .cylinders) (a .heads) (a .sectors)) (a .l) in
+    addresses-refused s _ (a .slot .now) (sym (p .0) ∙ ap refusal (c .before .answer .given .1))
+
+same-length : tie.Need-same-length
+same-length c = search needs
+
+returns-2 : tie.Need-returns-2
+returns-2 c =
+    let a = c .before .before .before .before .before .before .before .before .before .args in
+    let p = c .before .before .before .before .before .before .before .update-chs .ensures in
+    let s = updateChs (geometryIn (a .cylinders) (a .heads) (a .sectors)) (a .l) in
+    addresses-done s (a .l) _ (a .slot .now) _ (c .before .before .before .before .before .before .before .before .before .pre) (sym (p .0) ∙ ap refusal (c .before .before .before .before .before .enum-told .given .1)) (p .1) (c .before .before .put-slot .ensures)
+
+pub update-on-spec : {M : Type 1} → statement M
+update-on-spec =
+    tie.close
+    (tie.spec
+    update-chs-requires
+    enum-known-answer
+    enum-told
+    put-slot-requires
+    returns
+    same-length
+    returns-2)

@@ -1,0 +1,48 @@
+// The addresses of a logical partition, for programs in C and Rust: the partition is the 482 bytes of a block's slot.
+use base::Answer;
+use table::LogicalPartition;
+ghost use mathlib.Core.Path.{_≡_};
+ghost use Prim.Native.Nat.{_≤_};
+ghost use lib.ListN.{length};
+ghost use Rattle.base.specs.Said.{failure};
+ghost use Rattle.push.specs.Answers.{geometryIn};
+ghost use Rattle.push.specs.Address.{updateChs};
+ghost use Rattle.abi.specs.Packed.{status};
+ghost use Rattle.abichs.specs.Slot.{slotSays, slotAfter};
+
+// The bytes of a slot in a block.
+const SLOT: usize = 482;
+
+// The partition that stands in the slot.
+fn update_on(slot: &mut [u8], l: LogicalPartition, cylinders: u16, heads: u8, sectors: u8) -> u8
+    requires { ⌜ length (now slot) ≡ 482 ⌝ }
+    ensures { λ r. ⌜ r ≡ status (failure (updateChs (geometryIn cylinders heads sectors) l)) ⌝ }
+    ensures { λ r. ⌜ now (slot .exit) ≡ slotAfter (now (slot .entry)) (updateChs (geometryIn cylinders heads sectors) l) ⌝ }
+{
+    let u = push::update_chs(l, cylinders, heads, sectors);
+    let answer = u.answer;
+    match answer {
+        Answer::Refused(k) => k,
+        Answer::Done => {
+            let m = u.logical;
+            blockwrite::put_slot(slot, 0, m);
+            0
+        }
+    }
+}
+
+// Alters the four addresses of the partition in a lent slot: 101, 102, 7, 13, 14.
+#[no_mangle]
+pub extern "C" fn cv_update_chs(slot: &mut [u8], cylinders: u16, heads: u8, sectors: u8) -> u8
+    ensures said { λ r. ⌜ r ≡ status (failure (slotSays (geometryIn cylinders heads sectors) (now (slot .entry)))) ⌝ }
+    ensures left { λ r. ⌜ now (slot .exit) ≡ slotAfter (now (slot .entry)) (slotSays (geometryIn cylinders heads sectors) (now (slot .entry))) ⌝ }
+{
+    if slot.len() != SLOT {
+        return 101;
+    }
+    if !blockread::slot_tagged(slot) {
+        return 102;
+    }
+    let l = blockread::get_slot(slot);
+    update_on(slot, l, cylinders, heads, sectors)
+}

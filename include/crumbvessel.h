@@ -1,14 +1,14 @@
 /* Crumbvessel for programs in C: MBR tables from extracts, as bytes and numbers. x86-64 Linux.
  *
  * Link the archives of the functions in use: libabi.a, libabicareful.a, libabitable.a, libabiedit.a, libabilook.a,
- * libabisound.a, libabiwrite.a (`rt staticlib NAME` makes libNAME.a).
+ * libabisound.a, libabifree.a, libabiwrite.a, libabiheader.a, libabichs.a (`rt staticlib NAME` makes libNAME.a).
  *
  * Lent bytes are an address and a length. The address is never null, also where the length is 0. Bytes that a function
  * writes overlap nothing else that the same call is lent. No function keeps an address or allocates. A refusal leaves
  * every lent byte as it was.
  *
- * A block is lent whole, CV_BLOCK bytes; any other length is CV_BLOCK_LENGTH. An extract or an output of length 0 is
- * allowed and refused (1, 19, 101).
+ * A block is lent whole, CV_BLOCK bytes, a header CV_HEADER, a slot CV_SLOT; any other length is CV_BLOCK_LENGTH. An
+ * extract or an output of length 0 is allowed and refused (1, 19, 101).
  */
 #ifndef CRUMBVESSEL_H
 #define CRUMBVESSEL_H
@@ -48,7 +48,7 @@ enum cv_refusal {
     CV_TOO_MANY_RECORDS = 22,  /* a 65th record */
     CV_BAD_REQUEST = 23,       /* careful push of type 0 or extended, or with more than 63 sectors in a geometry */
     /* none of the library's own: */
-    CV_BLOCK_LENGTH = 101,     /* a lent block is not CV_BLOCK bytes */
+    CV_BLOCK_LENGTH = 101,     /* a lent block, header or slot is not of its length */
     CV_BLOCK_TAG = 102,        /* a tag in a block is neither 0 nor 1 */
     CV_NOTHING = 255           /* no refusal: there is no such value */
 };
@@ -73,6 +73,10 @@ static inline uint8_t cv_sector(uint64_t answer) { return (uint8_t)answer; }
 /* The listing asks for this room. */
 #define CV_LISTING 2048
 
+/* A run: start and length (u32, little-endian). Free runs ask for room for thirty. */
+#define CV_RUN 8
+#define CV_RUNS 240
+
 /* A table as a block, all numbers little-endian. Front: */
 #define CV_BLOCK 12108
 #define CV_SECTOR_SIZE 0 /* u32 */
@@ -88,6 +92,7 @@ static inline uint8_t cv_sector(uint64_t answer) { return (uint8_t)answer; }
 #define CV_COPY_MARK 464                     /* 2 bytes */
 #define CV_PRIMARY(i) (466 + 18 * (size_t)(i)) /* entry i, 0 to 3 */
 #define CV_BOOT_SIGNATURE 538                /* 2 bytes, 55 AA */
+#define CV_HEADER 520                        /* bytes of a header: those from CV_CODE on */
 /* Logical partitions, slot i, 0 to 23; those from the count on are unused: */
 #define CV_LOGICAL(i) (540 + 482 * (size_t)(i)) /* entry */
 #define CV_EBR_LBA 18                           /* in a slot: u32, absolute */
@@ -95,7 +100,9 @@ static inline uint8_t cv_sector(uint64_t answer) { return (uint8_t)answer; }
 #define CV_EBR_FIRST 27                         /* address */
 #define CV_EBR_LAST 31                          /* tag; address */
 #define CV_EBR_CODE 36                          /* 446 bytes */
-/* An entry: flag, first address, type, last address, start, sectors. An address: cylinder u16, head, sector. */
+#define CV_SLOT 482                             /* bytes of a slot */
+/* In an entry of CV_ENTRY bytes: flag, first address, type, last address, start, sectors. An address: cylinder u16, head,
+ * sector. */
 #define CV_ENTRY 18
 #define CV_ENTRY_FIRST 1
 #define CV_ENTRY_TYPE 5
@@ -184,13 +191,42 @@ uint64_t cv_get_cylinder_size(const uint8_t *block, size_t block_length);
 /* Whether the table of a block is sound, 1 or 0; 101, 6, 102. */
 uint64_t cv_is_sound(const uint8_t *block, size_t block_length);
 
+/* libabifree.a: free runs as mbrman finds them, which is no truth about what is free. */
+
+/* The free runs of the table of a block, run i at CV_RUN * i of `out`, the bytes behind the last as before: their number,
+ * at most 30; 101, 6, 102, 7, 19. */
+uint64_t cv_find_free_sectors(const uint8_t *block, size_t block_length, uint8_t *out, size_t out_length);
+/* A place for `size` sectors: the start of the first run that is long enough, the last aligned one in the last such run,
+ * the start of the smallest; 101, 6, 102, 7; CV_NOTHING. */
+uint64_t cv_find_first_place(const uint8_t *block, size_t block_length, uint32_t size);
+uint64_t cv_find_last_place(const uint8_t *block, size_t block_length, uint32_t size);
+uint64_t cv_find_optimal_place(const uint8_t *block, size_t block_length, uint32_t size);
+/* The most sectors of a new partition, in whole alignments; 101, 6, 102, 7, 16. */
+uint64_t cv_get_maximum_partition_size(const uint8_t *block, size_t block_length);
+/* The sectors to which partition `number` can grow; 101, 6, 102, 7 of the free runs, 15, 7. */
+uint64_t cv_get_maximum_partition_size_for(const uint8_t *block, size_t block_length, uint32_t number);
+
 /* libabiwrite.a */
 
 /* Writes the table of a block over an extract, the new extract to `out`: its length, at most CV_EXTRACT(64); and the table
- * as writing leaves it to a second block, `after`. 101, 6, 102 of the block; 101 of `after`; 1, 3, 4, 2, 7, 13, 14, 18, 22,
- * 19. */
+ * as writing leaves it to a second block, `after`. 101, 6, 102 of the block; 101 of `after`; 1, 3, 4, 2, 7, 13, 14, 18,
+ * 22, 19. */
 uint64_t cv_write_into(const uint8_t *block, size_t block_length, const uint8_t *x, size_t x_length, uint8_t *out,
                        size_t out_length, uint8_t *after, size_t after_length);
+
+/* libabiheader.a */
+
+/* The header of an extract, CV_HEADER bytes: 0; 1, 2, 3, 4, 101. */
+uint8_t cv_read_header(const uint8_t *x, size_t x_length, uint8_t *out, size_t out_length);
+/* Writes a header of CV_HEADER bytes over an extract, the new extract to `out`: its length; 101, 1, 3, 4, 2, 22, 19. */
+uint64_t cv_write_header(const uint8_t *header, size_t header_length, const uint8_t *x, size_t x_length, uint8_t *out,
+                         size_t out_length);
+
+/* libabichs.a */
+
+/* update_chs on the logical partition in a slot of CV_SLOT bytes, in place: its four addresses; bytes behind an absent tag
+ * become zero. 0; 101, 102, 7, 13, 14. */
+uint8_t cv_update_chs(uint8_t *slot, size_t slot_length, uint16_t cylinders, uint8_t heads, uint8_t sectors);
 
 #ifdef __cplusplus
 }

@@ -291,6 +291,115 @@ static void edits(void)
     IS(memcmp(u + CV_BOOT_SIGNATURE, "\x55\xAA", 2), 0);
 }
 
+/* The free runs of K. */
+static void free_runs(void)
+{
+    static const uint32_t runs[] = {2048, 2048, 6144, 4096, 12288, 8192};
+    static uint8_t t[CV_BLOCK];
+    uint8_t out[CV_RUNS + CV_RUN];
+    IS(cv_read(k, sizeof k, t, sizeof t), CV_DONE);
+    memset(out, 7, sizeof out);
+    IS(cv_find_free_sectors(t, sizeof t, out, CV_RUNS - 1), REFUSED(CV_OUTPUT_SHORT));
+    IS(cv_find_free_sectors(t, sizeof t - 1, out, sizeof out), REFUSED(CV_BLOCK_LENGTH));
+    put32(t + CV_ALIGN, 0);
+    IS(cv_find_free_sectors(t, sizeof t, out, 0), REFUSED(CV_ARITHMETIC));
+    put32(t + CV_ALIGN, 2048);
+    IS(all(out, sizeof out, 7), true);
+    IS(cv_find_free_sectors(t, sizeof t, out, sizeof out), 3);
+    for (int i = 0; i < 6; i++)
+        IS(get32(out + 4 * i), runs[i]);
+    IS(all(out + 3 * CV_RUN, sizeof out - 3 * CV_RUN, 7), true);
+    IS(cv_find_first_place(t, sizeof t, 2049), 6144);
+    IS(cv_find_last_place(t, sizeof t, 1000), 18432);
+    IS(cv_find_optimal_place(t, sizeof t, 4097), 12288);
+    IS(cv_find_optimal_place(t, sizeof t, 2048), 2048);
+    IS(cv_find_optimal_place(t, sizeof t, 8193), REFUSED(CV_NOTHING));
+    IS(cv_get_maximum_partition_size(t, sizeof t), 8192);
+}
+
+/* D 10,000, alignment 2,048, one primary at 2,048 of 2,048 sectors: one run, 4,096 of 5,904. */
+static void places(void)
+{
+    static uint8_t t[CV_BLOCK];
+    put32(t + CV_DISK_SIZE, 10000);
+    put32(t + CV_ALIGN, 2048);
+    t[CV_PRIMARY(0) + CV_ENTRY_TYPE] = 0x83;
+    put32(t + CV_PRIMARY(0) + CV_ENTRY_START, 2048);
+    put32(t + CV_PRIMARY(0) + CV_ENTRY_SECTORS, 2048);
+    IS(cv_find_first_place(t, sizeof t, 5904), 4096);
+    IS(cv_find_first_place(t, sizeof t, 5905), REFUSED(CV_NOTHING));
+    IS(cv_find_first_place(t, 0, 5905), REFUSED(CV_BLOCK_LENGTH));
+    IS(cv_find_last_place(t, sizeof t, 1000), 8192);
+    IS(cv_get_maximum_partition_size(t, sizeof t), 4096);
+    IS(cv_get_maximum_partition_size_for(t, sizeof t, 1), 7952);
+    IS(cv_get_maximum_partition_size_for(t, sizeof t, 5), REFUSED(CV_NOT_FOUND));
+    put32(t + CV_PRIMARY(0) + CV_ENTRY_START, 1);
+    put32(t + CV_PRIMARY(0) + CV_ENTRY_SECTORS, 9999);
+    IS(cv_get_maximum_partition_size(t, sizeof t), REFUSED(CV_NO_SPACE));
+    put32(t + CV_ALIGN, 0);
+    IS(cv_get_maximum_partition_size(t, sizeof t), REFUSED(CV_ARITHMETIC));
+    put32(t + CV_COUNT, 25);
+    IS(cv_find_optimal_place(t, sizeof t, 1), REFUSED(CV_TOO_MANY));
+    IS(cv_get_maximum_partition_size_for(t, sizeof t, 1), REFUSED(CV_TOO_MANY));
+}
+
+static void headers(void)
+{
+    static uint8_t t[CV_BLOCK];
+    uint8_t h[CV_HEADER], out[sizeof k];
+    memset(h, 7, sizeof h);
+    memset(out, 7, sizeof out);
+    IS(cv_read_header(k, sizeof k - 1, h, sizeof h), CV_BAD_EXTRACT);
+    IS(cv_read_header(k, sizeof k, h, sizeof h - 1), CV_BLOCK_LENGTH);
+    k[32 + 511] = 0;
+    IS(cv_read_header(k, sizeof k, h, 0), CV_SIGNATURE);
+    k[32 + 511] = 0xAA;
+    IS(all(h, sizeof h, 7), true);
+    IS(cv_read_header(k, sizeof k, h, sizeof h), CV_DONE);
+    IS(cv_read(k, sizeof k, t, sizeof t), CV_DONE);
+    IS(memcmp(h, t + CV_CODE, sizeof h), 0);
+    IS(cv_write_header(h, sizeof h - 1, k, 0, out, sizeof out), REFUSED(CV_BLOCK_LENGTH));
+    IS(cv_write_header(h, sizeof h, k, 0, out, sizeof out), REFUSED(CV_BAD_EXTRACT));
+    IS(cv_write_header(h, sizeof h, k, sizeof k, out, sizeof out - 1), REFUSED(CV_OUTPUT_SHORT));
+    h[CV_PRIMARY(3) - CV_CODE] = 1;
+    IS(cv_write_header(h, sizeof h, k, sizeof k, out, sizeof out), REFUSED(CV_BOOT_FLAG));
+    h[CV_PRIMARY(3) - CV_CODE] = 0;
+    IS(all(out, sizeof out, 7), true);
+    IS(cv_write_header(h, sizeof h, k, sizeof k, out, sizeof out), sizeof out);
+    IS(memcmp(out, k, sizeof k), 0);
+    h[CV_DISK_SIGNATURE - CV_CODE] = 9;
+    IS(cv_write_header(h, sizeof h, k, sizeof k, out, sizeof out), sizeof out);
+    IS(out[32 + 440], 9);
+}
+
+/* The logical partition of K: 6,144 to 8,191, its EBR at 4,096. */
+static void slots(void)
+{
+    static uint8_t t[CV_BLOCK];
+    uint8_t s[CV_SLOT];
+    IS(cv_read(k, sizeof k, t, sizeof t), CV_DONE);
+    memcpy(s, t + CV_LOGICAL(0), sizeof s);
+    IS(cv_update_chs(s, sizeof s - 1, 1023, 255, 63), CV_BLOCK_LENGTH);
+    IS(cv_update_chs(s, sizeof s, 1023, 0, 63), CV_ARITHMETIC);
+    IS(cv_update_chs(s, sizeof s, 10, 2, 3), CV_CYLINDER_1023);
+    IS(cv_update_chs(s, sizeof s, 10, 2, 60), CV_CYLINDER_DISK);
+    IS(memcmp(s, t + CV_LOGICAL(0), sizeof s), 0);
+    IS(cv_update_chs(s, sizeof s, 1023, 255, 63), CV_DONE);
+    IS(memcmp(s + CV_ENTRY_FIRST, "\0\0\x61\x22", 4), 0);
+    IS(memcmp(s + CV_ENTRY_LAST, "\0\0\x82\x02", 4), 0);
+    IS(memcmp(s + CV_EBR_FIRST, "\0\0\x41\x02", 4), 0);
+    memset(s + CV_ENTRY_FIRST, 0, 4);
+    memset(s + CV_ENTRY_LAST, 0, 4);
+    memset(s + CV_EBR_FIRST, 0, 4);
+    IS(memcmp(s, t + CV_LOGICAL(0), sizeof s), 0);
+    s[CV_EBR_SECTORS] = 1;
+    put32(s + CV_EBR_SECTORS + 1, 4096);
+    IS(cv_update_chs(s, sizeof s, 1023, 255, 63), CV_DONE);
+    IS(memcmp(s + CV_EBR_LAST, "\1\0\0\x82\x02", 5), 0);
+    s[CV_EBR_LAST] = 2;
+    IS(cv_update_chs(s, sizeof s, 1023, 0, 63), CV_BLOCK_TAG);
+}
+
 /* push on K, written: it lists as after the careful push, and the table afterwards is the one that was pushed. */
 static void writing(void)
 {
@@ -334,6 +443,10 @@ int main(void)
     table_refusals();
     looks();
     edits();
+    free_runs();
+    places();
+    headers();
+    slots();
     writing();
     printf("%d of %d answers as document 01 has them\n", tried - failed, tried);
     return failed != 0;

@@ -25,7 +25,7 @@ fn update_on(slot: &mut [u8], l: LogicalPartition, cylinders: u16, heads: u8, se
         Answer::Refused(k) => k,
         Answer::Done => {
             let m = u.logical;
-            blockwrite::put_slot(slot, 0, m);
+            slotwrite::put_slot(slot, 0, m);
             0
         }
     }
@@ -40,9 +40,9 @@ pub extern "C" fn cv_update_chs(slot: &mut [u8], cylinders: u16, heads: u8, sect
     if slot.len() != SLOT {
         return 101;
     }
-    if !blockread::slot_tagged(slot) {
+    if !slotread::slot_tagged(slot) {
         return 102;
     }
-    let l = blockread::get_slot(slot);
+    let l = slotread::get_slot(slot);
     update_on(slot, l, cylinders, heads, sectors)
 }

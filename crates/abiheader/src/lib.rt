@@ -22,7 +22,7 @@ fn put_header(h: MBRHeader, out: &mut [u8])
     ensures { λ _. ⌜ now (out .exit) ≡ headerPart h ⌝ }
 {
     let mut block = [0u8; block::BLOCK];
-    blockwrite::put_header(&mut block, h);
+    partwrite::put_header(&mut block, h);
     base::copy_in(out, 0, &block[20..540]);
 }
 
@@ -73,6 +73,6 @@ pub extern "C" fn cv_write_header(header: &[u8], x: &[u8], out: &mut [u8]) -> u6
     if header.len() != HEADER {
         return abi::upper(101);
     }
-    let h = blockread::get_header(header);
+    let h = partread::get_header(header);
     of_laid(write::write_header(h, x, out))
 }

@@ -1,0 +1,133 @@
+//! Careful changes of a disk that notes every read, write and flush, and that fails when told to.
+
+mod common;
+use common::{disk_k, listing, noted_k, table_k, Event};
+
+use crumbvessel::{careful_push, careful_remove, Error, Request, MBR};
+
+const BEFORE: &str = "disk 20480 align 2048 logical 1\n1 05 00 4096 16384\n5 83 00 6144 2048\n";
+const AFTER: &str = "disk 20480 align 2048 logical 2\n1 05 00 4096 16384\n5 83 00 6144 2048\n6 83 00 10240 2048\n";
+const NONE: &str = "disk 20480 align 4096 logical 0\n1 05 00 4096 16384\n";
+
+fn request(starting_lba: u32, sectors: u32) -> Request {
+    Request { align: 2048, geometry: (0, 0, 0), sys: 0x83, starting_lba, sectors }
+}
+
+#[test]
+fn a_push_stores_the_new_ebr_then_the_former_last() {
+    let mut disk = noted_k();
+    let table = careful_push(&mut disk, 512, &request(8192, 4096)).unwrap();
+    assert_eq!((table.len(), table[6].starting_lba, table[6].sectors), (6, 10240, 2048));
+    let (new, last) = (8192 * 512, 4096 * 512);
+    assert_eq!(disk.changes(), [Event::Write(new, 512), Event::Sync, Event::Write(last, 512), Event::Sync]);
+    for at in [new, last] {
+        let synced = disk.events.windows(3).any(|w| w == [Event::Write(at, 512), Event::Sync, Event::Read(at, 512)]);
+        assert!(synced, "the store at {at} is read back once it is on the medium");
+    }
+    assert_eq!(listing(&mut disk, 512), AFTER);
+}
+
+#[test]
+fn a_removal_is_one_store() {
+    let mut disk = noted_k();
+    let table = careful_remove(&mut disk, 512, 5).unwrap();
+    assert_eq!(table.logical_partitions, []);
+    assert_eq!(disk.changes(), [Event::Write(4096 * 512, 512), Event::Sync]);
+    assert_eq!(listing(&mut disk, 512), NONE);
+    let again = careful_push(&mut disk, 512, &request(4096, 4096)).unwrap();
+    assert_eq!(again.logical_partitions, table_k().logical_partitions);
+}
+
+#[test]
+fn refusals_write_nothing() {
+    let mut disk = noted_k();
+    let pushes =
+        [(16384, 4097, 12), (16385, 4096, 11), (2048, 4096, 10), (6144, 4096, 21), (0, 4096, 7), (8192, 2048, 9)];
+    for (start, sectors, number) in pushes {
+        assert_eq!(careful_push(&mut disk, 512, &request(start, sectors)).unwrap_err().number(), number);
+    }
+    let extended = Request { sys: 0x0f, ..request(8192, 4096) };
+    assert_eq!(careful_push(&mut disk, 512, &extended).unwrap_err().number(), 23);
+    let wide = Request { geometry: (1023, 255, 64), ..request(8192, 4096) };
+    assert_eq!(careful_push(&mut disk, 512, &wide).unwrap_err().number(), 23);
+    for number in [0, 4, 6, usize::MAX] {
+        assert_eq!(careful_remove(&mut disk, 512, number).unwrap_err().number(), 17);
+    }
+    assert_eq!(careful_remove(&mut disk, 513, 5).unwrap_err().number(), 1);
+    assert_eq!(disk.changes(), []);
+    // The extended partition ends past the disk.
+    disk.bytes.insert(446 + 8, 1);
+    assert_eq!(careful_remove(&mut disk, 512, 5).unwrap_err().number(), 20);
+    assert_eq!(disk.changes(), []);
+}
+
+#[test]
+fn only_the_first_512_bytes_of_a_sector_change() {
+    let mut disk = disk_k(4096);
+    careful_push(&mut disk, 4096, &request(8192, 4096)).unwrap();
+    assert_eq!(listing(&mut disk, 4096), AFTER);
+    let before = disk_k(4096);
+    let pairs = disk.get_ref().chunks(512).zip(before.get_ref().chunks(512));
+    let changed: Vec<_> = pairs.enumerate().filter(|(_, (new, old))| new != old).map(|(i, _)| i).collect();
+    assert_eq!(changed, [4096 * 8, 8192 * 8]);
+}
+
+#[test]
+fn a_failing_write_leaves_the_table_before_or_after() {
+    for which in 1..=3 {
+        for stored in [0, 1, 100, 447, 511, 512] {
+            let mut disk = noted_k();
+            disk.fails = Some((which, stored));
+            let done = careful_push(&mut disk, 512, &request(8192, 4096));
+            assert_eq!(done.is_ok(), which == 3);
+            assert_eq!(listing(&mut disk, 512), if which == 3 { AFTER } else { BEFORE });
+            let mut disk = noted_k();
+            disk.fails = Some((which, stored));
+            assert_eq!(careful_remove(&mut disk, 512, 5).is_ok(), which > 1);
+            assert_eq!(listing(&mut disk, 512), if which > 1 { NONE } else { BEFORE });
+        }
+    }
+}
+
+#[test]
+fn a_sector_that_cannot_be_put_back_is_told() {
+    let mut disk = noted_k();
+    disk.fails = Some((2, 100));
+    disk.dies = true;
+    match careful_push(&mut disk, 512, &request(8192, 4096)) {
+        Err(Error::Io(e)) => assert!(e.to_string().contains("could not be put back"), "{e}"),
+        other => panic!("{other:?}"),
+    }
+}
+
+#[test]
+fn the_next_store_waits_for_the_medium() {
+    let mut disk = noted_k();
+    disk.sync_fails = true;
+    assert!(matches!(careful_push(&mut disk, 512, &request(8192, 4096)), Err(Error::Io(_))));
+    assert_eq!(disk.changes(), [Event::Write(8192 * 512, 512), Event::Sync]);
+    assert_eq!(listing(&mut disk, 512), BEFORE);
+}
+
+#[test]
+fn a_store_that_does_not_read_back_stops_the_change() {
+    let mut disk = noted_k();
+    disk.forgets = true;
+    match careful_push(&mut disk, 512, &request(8192, 4096)) {
+        Err(Error::Io(e)) => assert!(e.to_string().contains("read back"), "{e}"),
+        other => panic!("{other:?}"),
+    }
+    assert_eq!(disk.changes(), [Event::Write(8192 * 512, 512), Event::Sync]);
+}
+
+#[test]
+fn a_file_is_changed_on_its_device() {
+    let path = std::env::temp_dir().join(format!("crumbvessel-{}.img", std::process::id()));
+    std::fs::write(&path, disk_k(512).get_ref()).unwrap();
+    let mut file = std::fs::OpenOptions::new().read(true).write(true).open(&path).unwrap();
+    std::fs::remove_file(&path).unwrap();
+    careful_push(&mut file, 512, &request(8192, 4096)).unwrap();
+    assert_eq!(listing(&mut file, 512), AFTER);
+    careful_remove(&mut file, 512, 6).unwrap();
+    assert_eq!(MBR::read_from(&mut file, 512).unwrap(), table_k());
+}

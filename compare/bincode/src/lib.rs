@@ -41,6 +41,7 @@ pub mod serde {
     use base::{de::DeserializeOwned, Serialize};
     use std::io::{Read, Write};
 
+    #[cfg_attr(feature = "separate", inline(never))]
     pub fn decode_from_std_read<T: DeserializeOwned, R: Read>(
         reader: &mut R,
         _: Legacy,
@@ -49,6 +50,7 @@ pub mod serde {
     }
 
     /// Answers how many bytes were written.
+    #[cfg_attr(feature = "separate", inline(never))]
     pub fn encode_into_std_write<T: Serialize, W: Write>(
         value: T,
         writer: &mut W,
@@ -65,6 +67,7 @@ pub mod serde {
     }
 
     impl<W: Write> Write for Counted<'_, W> {
+        #[cfg_attr(feature = "separate", inline(never))]
         fn write(&mut self, bytes: &[u8]) -> std::io::Result<usize> {
             let n = self.writer.write(bytes)?;
             self.written += n;

@@ -46,15 +46,18 @@ pub struct BitVec<T, O> {
 }
 
 impl<T: BitStore> BitVec<T, Msb0> {
+    #[cfg_attr(feature = "separate", inline(never))]
     pub fn with_capacity(bits: usize) -> Self {
         BitVec { raw: Vec::with_capacity(bits.div_ceil(T::BITS)), len: 0, order: PhantomData }
     }
 
     /// All bits of the elements.
+    #[cfg_attr(feature = "separate", inline(never))]
     pub fn from_vec(raw: Vec<T>) -> Self {
         BitVec { len: raw.len() * T::BITS, raw, order: PhantomData }
     }
 
+    #[cfg_attr(feature = "separate", inline(never))]
     pub fn push(&mut self, bit: bool) {
         if self.len % T::BITS == 0 {
             self.raw.push(T::ZERO);
@@ -67,6 +70,7 @@ impl<T: BitStore> BitVec<T, Msb0> {
     }
 
     /// Takes out the bits of a range; those behind it move up.
+    #[cfg_attr(feature = "separate", inline(never))]
     pub fn drain<R: RangeBounds<usize>>(&mut self, range: R) -> std::vec::IntoIter<bool> {
         let start = match range.start_bound() {
             Bound::Included(&n) => n,
@@ -85,6 +89,7 @@ impl<T: BitStore> BitVec<T, Msb0> {
         taken.into_iter()
     }
 
+    #[cfg_attr(feature = "separate", inline(never))]
     pub fn as_raw_slice(&self) -> &[T] {
         &self.raw
     }
@@ -95,6 +100,7 @@ impl<T: BitStore> BitVec<T, Msb0> {
 }
 
 impl<T: BitStore> Extend<bool> for BitVec<T, Msb0> {
+    #[cfg_attr(feature = "separate", inline(never))]
     fn extend<I: IntoIterator<Item = bool>>(&mut self, bits: I) {
         for bit in bits {
             self.push(bit);
@@ -106,6 +112,7 @@ impl<T: BitStore> IntoIterator for BitVec<T, Msb0> {
     type Item = bool;
     type IntoIter = std::vec::IntoIter<bool>;
 
+    #[cfg_attr(feature = "separate", inline(never))]
     fn into_iter(self) -> Self::IntoIter {
         self.bits().into_iter()
     }

@@ -12,6 +12,7 @@ use bincode::serde::{decode_from_std_read, encode_into_std_write};
 use mbrman::{LogicalPartition, MBRHeader, MBRPartitionEntry, BOOT_ACTIVE, BOOT_INACTIVE, CHS, MBR};
 
 use crate::adapter::{Disk, Extract, RECORD};
+use crate::given::Given;
 use crate::refusal::{plain, run, Operation, Refused};
 use crate::text::{self, Words};
 
@@ -22,9 +23,7 @@ pub type Carried = BTreeMap<&'static str, u64>;
 
 #[derive(Default)]
 pub struct Crate {
-    x: Vec<u8>,
-    o: Vec<u8>,
-    t: Option<MBR>,
+    given: Given,
     pub carried: Carried,
 }
 
@@ -38,7 +37,7 @@ fn said(answer: Result<String, Refused>) -> Said {
     Some(answer.unwrap_or_else(|r| refused(&r)))
 }
 
-fn no_logical() -> LogicalPartition {
+pub fn no_logical() -> LogicalPartition {
     LogicalPartition {
         partition: MBRPartitionEntry::empty(),
         absolute_ebr_lba: 0,
@@ -56,41 +55,27 @@ impl Crate {
 
     /// The word of the line and its answer; nothing for a line that only changes what later ones work on.
     pub fn answer<'a>(&mut self, line: &'a str) -> Option<(&'a str, Said)> {
+        if self.given.change(line) {
+            return None;
+        }
         let mut words = Words::of(line);
         let word = words.word();
-        match word {
-            "#" => return None,
-            "x" => self.x = vec![0; words.usize()],
-            "xp" => {
-                let at = words.usize();
-                for (i, pair) in words.word().as_bytes().chunks(2).enumerate() {
-                    let pair = std::str::from_utf8(pair).unwrap();
-                    self.x[at + i] = u8::from_str_radix(pair, 16).expect("hex");
-                }
-            }
-            "o" => {
-                let length = words.usize();
-                self.o = vec![words.u8(); length];
-            }
-            "t" => self.t = Some(words.table()),
-            _ => return Some((word, self.command(word, words))),
-        }
-        None
+        Some((word, self.command(word, words)))
     }
 
     fn command(&mut self, word: &str, mut w: Words) -> Said {
         if let Some(name) = word.strip_prefix("t_") {
-            let t = self.t.clone().expect("a table");
+            let t = self.given.t.clone().expect("a table");
             return self.on_table(name, t, w);
         }
         match word {
-            "read" => said(self.read(&self.x.clone())?.map(|t| text::table(&t))),
+            "read" => said(self.read(&self.given.x.clone())?.map(|t| text::table(&t))),
             "read_header" => {
-                let mut disk = Disk::new(Extract::of(&self.x)?);
+                let mut disk = Disk::new(Extract::of(&self.given.x)?);
                 said(run(Operation::Read, || MBRHeader::read_from(&mut disk)).map(|h| text::header(&h)))
             }
             "new_from" => {
-                let mut disk = Disk::new(Extract::of(&self.x)?);
+                let mut disk = Disk::new(Extract::of(&self.given.x)?);
                 let size = disk.extract.sector_size;
                 let signature = [w.u8(), w.u8(), w.u8(), w.u8()];
                 said(run(Operation::Read, || MBR::new_from(&mut disk, size, signature)).map(|t| text::table(&t)))
@@ -104,7 +89,11 @@ impl Crate {
                 Some(tests.map(text::truth).join(" "))
             }
             _ if word.starts_with("mbr_") => self.record_command(word, w),
-            _ if word.starts_with("ebr_") || word.starts_with("extract_") => None,
+            "read_o" => {
+                let x = self.given.o[..w.usize()].to_vec();
+                said(self.read(&x)?.map(|t| text::table(&t)))
+            }
+            _ if ["ebr_", "extract_", "careful_"].iter().any(|p| word.starts_with(p)) => None,
             _ => self.on_read_table(word, w),
         }
     }
@@ -113,16 +102,16 @@ impl Crate {
         match word {
             "mbr_new" => Some(text::header(&MBRHeader::new([w.u8(), w.u8(), w.u8(), w.u8()]))),
             "mbr_get" => {
-                let h = w.header(&self.x);
+                let h = w.header(&self.given.x);
                 Some(text::found(h.get(w.usize())))
             }
             "mbr_copy" => {
-                let mark = w.header(&self.x).is_copy_protected();
+                let mark = w.header(&self.given.x).is_copy_protected();
                 Some(mark.map_or("neither", |m| if m { "yes" } else { "no" }).to_string())
             }
             "mbr_read" => said(self.header_of_x()?.map(|h| text::header(&h))),
             "mbr_write" => {
-                let h = w.header(&self.x);
+                let h = w.header(&self.given.x);
                 self.write_record(&h)
             }
             "mbr_again" => match self.header_of_x()? {
@@ -134,10 +123,10 @@ impl Crate {
     }
 
     fn header_of_x(&self) -> Option<Result<MBRHeader, Refused>> {
-        if self.x.len() != RECORD {
+        if self.given.x.len() != RECORD {
             return None;
         }
-        Some(run(Operation::Read, || MBRHeader::read_from(&mut Cursor::new(&self.x[..]))))
+        Some(run(Operation::Read, || MBRHeader::read_from(&mut Cursor::new(&self.given.x[..]))))
     }
 
     fn write_record(&mut self, h: &MBRHeader) -> Said {
@@ -145,13 +134,13 @@ impl Crate {
         let answer = run(Operation::Write, || h.write_into(&mut out));
         let first = match answer {
             Err(r) => refused(&r),
-            Ok(()) if self.o.len() < RECORD => return None,
+            Ok(()) if self.given.o.len() < RECORD => return None,
             Ok(()) => {
-                self.o[..RECORD].copy_from_slice(&out.into_inner());
+                self.given.o[..RECORD].copy_from_slice(&out.into_inner());
                 "done".to_string()
             }
         };
-        Some(format!("{first} {} {}", self.o.len(), text::checksum(&self.o)))
+        Some(format!("{first} {}", self.lent()))
     }
 
     /// Reading with document 01's capacity: the 25th EBR is 6 once it was read without 2, 3 or 4.
@@ -183,13 +172,8 @@ impl Crate {
     fn on_read_table(&mut self, word: &str, mut w: Words) -> Said {
         let (align, cylinders, heads, sectors) = (w.u32(), w.u16(), w.u8(), w.u8());
         let (count, disk_size) = (w.usize(), w.u32());
-        let mut second = Vec::new();
-        if word == "update_from" {
-            let at = self.x.len().saturating_sub(w.usize());
-            second = self.x.split_off(at);
-        }
-        let x = self.x.clone();
-        self.x.extend(&second);
+        let last = if ["update_from", "write_table", "write_header"].contains(&word) { w.usize() } else { 0 };
+        let (x, second) = self.given.parted(last);
         let t = match self.read(&x)? {
             Ok(t) => t,
             Err(r) => return Some(refused(&r)),
@@ -203,6 +187,7 @@ impl Crate {
                 Err(r) => Some(refused(&r)),
             },
             "push_all" => self.on_table("push", t, w),
+            "write_table" | "write_header" => self.write_edited(word, edited(t, w), &second),
             _ => self.on_table(word, t, w),
         }
     }
@@ -231,9 +216,15 @@ impl Crate {
                 Ok((after, number)) => Some(format!("{number} {}", text::table(&after))),
                 Err(r) => Some(format!("{} {}", refused(&r), text::table(&t))),
             },
-            "update_from" => self.update_from(t, &self.x.clone()),
-            "write" => self.write(t),
-            "write_header" => self.write_header(t),
+            "update_from" => self.update_from(t, &self.given.x.clone()),
+            "write" => {
+                let (said, after) = self.write(t, &self.given.x.clone())?;
+                let shown = said.map_or_else(|k| format!("refused {k}"), |length| format!("done {length}"));
+                Some(format!("{shown} {} {}", text::table(&after), self.lent()))
+            }
+            "write_header" => self.write_header(t, &self.given.x.clone()),
+            "free_into" => Some(free_into(t, w)),
+            "update_lent" => self.update_chs(t, w.usize()),
             _ => places(word, t, w),
         }
     }
@@ -313,8 +304,27 @@ impl Crate {
         self.changed(answer, t, after)
     }
 
-    fn write(&mut self, given: MBR) -> Said {
-        let extract = Extract::of(&self.x)?;
+    /// O's length and checksum.
+    fn lent(&self) -> String {
+        format!("{} {}", self.given.o.len(), text::checksum(&self.given.o))
+    }
+
+    /// The commands of the program numbers7; a count over 24 is document 01's alone.
+    fn write_edited(&mut self, word: &str, t: MBR, x: &[u8]) -> Said {
+        if t.logical_partitions.len() > LOGICALS {
+            return None;
+        }
+        if word == "write_header" {
+            return self.write_header(t, x);
+        }
+        let (said, after) = self.write(t, x)?;
+        let shown = said.map_or_else(|k| format!("refused {k}"), |length| length.to_string());
+        Some(format!("{shown} {} {}", self.lent(), text::table(&after)))
+    }
+
+    /// The new extract's length or a refusal's number, and the table afterwards.
+    fn write(&mut self, given: MBR, x: &[u8]) -> Option<(Result<usize, u32>, MBR)> {
+        let extract = Extract::of(x)?;
         if given.sector_size != extract.sector_size {
             self.carry("writing to another sector size: the crate uses its table's");
         }
@@ -336,21 +346,19 @@ impl Crate {
                 self.carry("writing refused: the crate has changed its table before");
             }
         }
-        let (first, table) = match self.laid(answer, &disk.extract) {
-            Ok(length) => (format!("done {length}"), after),
-            Err(number) => (format!("refused {number}"), given),
-        };
-        Some(format!("{first} {} {} {}", text::table(&table), self.o.len(), text::checksum(&self.o)))
+        let said = self.laid(answer, &disk.extract);
+        let table = if said.is_ok() { after } else { given };
+        Some((said, table))
     }
 
-    fn write_header(&mut self, t: MBR) -> Said {
-        let mut disk = Disk::new(Extract::of(&self.x)?);
+    fn write_header(&mut self, t: MBR, x: &[u8]) -> Said {
+        let mut disk = Disk::new(Extract::of(x)?);
         let answer = run(Operation::Write, || t.header.write_into(&mut disk));
         let first = match self.laid(answer, &disk.extract) {
             Ok(length) => length.to_string(),
             Err(number) => format!("refused {number}"),
         };
-        Some(format!("{first} {} {}", self.o.len(), text::checksum(&self.o)))
+        Some(format!("{first} {}", self.lent()))
     }
 
     /// The disk after the stores as an extract in O: 22 and 19 are document 01's own.
@@ -361,13 +369,59 @@ impl Crate {
             self.carry("writing, a 65th record: the crate knows no extract");
             return Err(22);
         }
-        if self.o.len() < bytes.len() {
+        if self.given.o.len() < bytes.len() {
             self.carry("writing, lent output too short: the crate knows none");
             return Err(19);
         }
-        self.o[..bytes.len()].copy_from_slice(&bytes);
+        self.given.o[..bytes.len()].copy_from_slice(&bytes);
         Ok(bytes.len())
     }
+}
+
+/// Edits of three numbers each: a partition's number (0 is the header's signature), a field and its value. See
+/// ../../../second/answers.py.
+pub fn edited(mut t: MBR, w: Words) -> MBR {
+    let numbers: Vec<u32> = w.0.map(|n| n.parse().expect("a number")).collect();
+    for edit in numbers.chunks(3) {
+        let (number, field, value) = (edit[0] as usize, edit[1], edit[2]);
+        match (number, field) {
+            (_, 0) => {}
+            (0, _) => t.header.boot_signature = [(value % 256) as u8, (value / 256) as u8],
+            (_, 1..=4) => {
+                let e = t.get_mut(number).expect("a partition");
+                match field {
+                    1 => e.boot = value as u8,
+                    2 => e.sys = value as u8,
+                    3 => e.starting_lba = value,
+                    _ => e.sectors = value,
+                }
+            }
+            _ => edited_link(&mut t.logical_partitions[number - 5], field, value),
+        }
+    }
+    t
+}
+
+fn edited_link(l: &mut LogicalPartition, field: u32, value: u32) {
+    match field {
+        5 => l.absolute_ebr_lba = value,
+        6 => l.ebr_sectors = Some(value),
+        7 => l.ebr_sectors = None,
+        8 => l.ebr_last_chs = None,
+        _ => l.ebr_last_chs = Some(l.ebr_first_chs),
+    }
+}
+
+/// Thirty equal runs are lent: the answer, and the list afterwards. mbrman makes a list of its own.
+fn free_into(t: MBR, mut w: Words) -> String {
+    let mut lent = vec![(w.u32(), w.u32()); 30];
+    let answer = plain(|| t.find_free_sectors()).map(|runs| {
+        lent[..runs.len()].copy_from_slice(&runs);
+        runs.len().to_string()
+    });
+    let first = answer.unwrap_or_else(|r| refused(&r));
+    let numbers = lent.iter().map(|(start, length)| format!(" {start} {length}"));
+    format!("{first}{}", numbers.collect::<String>())
 }
 
 fn places(word: &str, mut t: MBR, mut w: Words) -> Said {

@@ -343,7 +343,7 @@ impl Cases {
     }
 
     /// X becomes these bytes; runs of zeros are left out.
-    fn lend(&mut self, x: &[u8]) {
+    pub fn lend(&mut self, x: &[u8]) {
         self.lines.push(format!("x {}", x.len()));
         let mut at = 0;
         while at < x.len() {
@@ -430,21 +430,28 @@ fn any_disk(rng: &mut Rng) -> (MBR, Extract) {
     (t, disk)
 }
 
-/// The bytes of an extract, now and then broken; a sector; a record, now and then of another length.
-#[cfg(feature = "archive")]
-pub fn disk_numbers(rng: &mut Rng) -> (Vec<u8>, u32, Vec<u8>) {
-    let (t, disk) = any_disk(rng);
-    let mut x = target(rng, &t, Some(disk)).bytes();
-    match rng.below(20) {
+/// The bytes of an extract with one rule broken, or perhaps none.
+fn broken(rng: &mut Rng, mut x: Vec<u8>) -> Vec<u8> {
+    match rng.below(4) {
         0 => x.truncate(rng.below(x.len() as u64 + 1) as usize),
         1 => x.push(rng.byte()),
-        2 | 3 if x.len() > 24 => {
+        _ => {
             let at = 4 * rng.below(6 + (x.len() as u64 - 24) / 516) as usize;
             let old = u32::from_le_bytes(x[at..at + 4].try_into().unwrap());
             let moved = old.wrapping_add(rng.of(&[1, BIG, 4, 512, 516]));
             x[at..at + 4].copy_from_slice(&rng.of(&[moved, moved, 0, BIG]).to_le_bytes());
         }
-        _ => {}
+    }
+    x
+}
+
+/// The bytes of an extract, now and then broken; a sector; a record, now and then of another length.
+#[cfg(feature = "archive")]
+pub fn disk_numbers(rng: &mut Rng) -> (Vec<u8>, u32, Vec<u8>) {
+    let (t, disk) = any_disk(rng);
+    let mut x = target(rng, &t, Some(disk)).bytes();
+    if rng.one_in(5) {
+        x = broken(rng, x);
     }
     let length = rng.of(&[RECORD, RECORD, RECORD, RECORD, RECORD, RECORD - 1, RECORD + 1, 0]);
     (x, near(rng, &t), vec![rng.byte(); length])
@@ -620,13 +627,117 @@ fn write_cases(rng: &mut Rng, out: &mut Cases) {
     }
 }
 
+/// Up to four edits of a table that was read: a partition's number, a field, a value.
+fn edits(rng: &mut Rng, t: &MBR) -> String {
+    let mut words = String::new();
+    for _ in 0..rng.of(&[0, 0, 1, 1, 2, 3, 4]) {
+        let n = t.logical_partitions.len() as u32;
+        let number = if n > 0 && !rng.one_in(4) { 5 + rng.below(u64::from(n)) } else { rng.below(5) };
+        let field = match number {
+            0 => 1,
+            1..=4 => 1 + rng.below(4),
+            _ => 1 + rng.below(9),
+        };
+        let value = match field {
+            _ if number == 0 => rng.of(&[0xaa55, 0x55aa, 0, 0xab55]),
+            1 => rng.flag().into(),
+            2 => rng.sys().into(),
+            _ => near(rng, t),
+        };
+        words += &format!(" {number} {field} {value}");
+    }
+    words
+}
+
+/// Writing of the table that a disk reads as, over another extract, and the header alone; what was written, read.
+fn written_cases(rng: &mut Rng, out: &mut Cases) {
+    let (_, disk) = any_disk(rng);
+    let size = disk.sector_size;
+    let Ok(mut t) = run(Operation::Read, || MBR::read_from(&mut Disk::new(disk.clone()), size)) else { return };
+    if t.logical_partitions.len() > 24 {
+        return;
+    }
+    for _ in 0..4 {
+        (t.cylinders, t.heads, t.sectors) = rng.geometry();
+        let same = rng.one_in(2).then(|| disk.clone());
+        let over = target(rng, &t, same);
+        let (x, old) = (disk.bytes(), over.bytes());
+        if x.len() + old.len() > 65536 {
+            continue;
+        }
+        out.lend(&[x, old.clone()].concat());
+        let args = format!("{}{}", old.len(), edits(rng, &t));
+        let header = on(true, "write_header", &t, &args);
+        let table = on(true, "write_table", &t, &args);
+        lend_out(rng, out, &over);
+        out.case(header);
+        lend_out(rng, out, &over);
+        out.case(table);
+    }
+}
+
+/// A request of a careful push: near the place behind the last partition, or anywhere.
+fn request(rng: &mut Rng, t: &MBR) -> String {
+    let align = match rng.below(6) {
+        0 => rng.of(&[1, 2, 8, 63, 64, 2048]),
+        1 => if rng.one_in(4) { rng.edge() } else { near(rng, t) },
+        _ => t.align,
+    };
+    let x = text::entries(&t.header).into_iter().find(|e| e.is_extended()).map_or(0, |e| e.starting_lba);
+    let last = t.logical_partitions.last().map_or(x, |l| l.partition.starting_lba.wrapping_add(l.partition.sectors));
+    let start = match rng.below(4) {
+        0 => near(rng, t),
+        1 => last.wrapping_add(align.wrapping_mul(rng.below(4))).wrapping_add(rng.of(&[0, 1, BIG])),
+        _ => last,
+    };
+    let sectors = match rng.below(5) {
+        0 => near(rng, t),
+        1 => align.wrapping_mul(1 + rng.below(6)).wrapping_add(rng.of(&[0, 1, BIG])),
+        _ => align.wrapping_mul(2 + rng.below(2)),
+    };
+    let geometry = if rng.one_in(2) { (0, 0, 0) } else { rng.geometry() };
+    let sys = if rng.one_in(4) { rng.sys() } else { 0x83 };
+    format!("{align} {} {} {} {sys} {start} {sectors}", geometry.0, geometry.1, geometry.2)
+}
+
+/// Careful changes of a disk, most often a sound one; now and then of an extract that is none.
+fn careful_cases(rng: &mut Rng, out: &mut Cases) {
+    let mut t = if rng.one_in(5) { table(rng) } else { sound(rng, 24) };
+    if !text::entries(&t.header).iter().any(|e| e.is_extended()) {
+        t = sound(rng, 24);
+    }
+    let mut disk = written(&t);
+    for _ in 0..rng.of(&[0, 0, 0, 0, 1, 1, 2]) {
+        change_disk(rng, &t, &mut disk);
+    }
+    let mut x = disk.bytes();
+    if rng.one_in(20) {
+        x = broken(rng, x);
+    }
+    out.lend(&x);
+    let n = t.logical_partitions.len() as u32;
+    for k in 0..10 {
+        let room = if rng.one_in(8) { rng.below(1033) } else { 1032 + rng.below(9) };
+        out.lines.push(format!("o {room} {}", rng.byte()));
+        if k % 2 == 0 || k == 9 {
+            out.case(format!("careful_push {}", request(rng, &t)));
+        } else {
+            let inside = 5 + rng.below(u64::from(n.max(1)));
+            let number = rng.of(&[inside, inside, 5, n + 4, n + 5, rng.0 as u32 % 7, BIG]);
+            out.case(format!("careful_remove {number}"));
+        }
+    }
+}
+
 /// Some more cases that belong together: they give anew what they work on.
 pub fn more(rng: &mut Rng, out: &mut Cases) {
-    match rng.below(12) {
+    match rng.below(15) {
         0 => chs_cases(rng, out),
         1 => record_cases(rng, out),
         2..=6 => disk_cases(rng, out),
         7 => write_cases(rng, out),
+        8 | 9 => written_cases(rng, out),
+        10 | 11 => careful_cases(rng, out),
         _ => {
             let t = table(rng);
             own_cases(rng, out, &t, None);

@@ -6,14 +6,21 @@
 //!                                         proved case programs their answers too
 //!     compare cases SEED COUNT            seeded cases, at least so many
 //!     compare ours BIN SEED COUNT         the crate and the proved case programs on seeded cases
-//!     compare archive SEED COUNT          the crate and the proved library in one process, twice so many answers (only
-//!                                         where it was built with the feature `archive`)
+//!     compare archive SEED COUNT          the crate and the proved library's archives in one process
+//!
+//! The last is there, and `held` holds the archives' answers to the second program's too, where it was built with the
+//! feature `archive`.
 
 mod adapter;
 #[cfg(feature = "archive")]
 mod archive;
+#[cfg(feature = "archive")]
+mod block;
 mod crate_side;
+#[cfg(feature = "archive")]
+mod extracts;
 mod generate;
+mod given;
 mod ours;
 mod refusal;
 mod text;
@@ -36,10 +43,7 @@ fn main() -> ExitCode {
         ["held", cases, answers] => return held(cases, answers, None),
         ["held", cases, answers, bin] => return held(cases, answers, Some(bin)),
         #[cfg(feature = "archive")]
-        ["archive", seed, count] => {
-            let [chs, disks] = archive::held(seed.parse().expect("a seed"), count.parse().expect("a count"));
-            println!("proved {}", chs + disks);
-        }
+        ["archive", seed, count] => return in_one(seed.parse().expect("a seed"), count.parse().expect("a count")),
         ["ours", bin, seed, count] => return ours(bin, seed.parse().expect("a seed"), count.parse().expect("a count")),
         _ => {
             eprintln!("usage: compare answers | digest | held CASES ANSWERS [BIN] | cases SEED COUNT | ours BIN SEED COUNT");
@@ -125,7 +129,11 @@ fn held(cases: &str, answers: &str, bin: Option<&str>) -> ExitCode {
     let mut side = Crate::default();
     let mut tally = Tally::default();
     let mut programs = bin.map(Ours::new);
+    #[cfg(feature = "archive")]
+    let (mut archives, mut linked) = (archive::Archive::default(), 0);
     for line in cases.lines() {
+        #[cfg(feature = "archive")]
+        let in_archive = archives.answer(line).and_then(|(_, said)| said);
         if let (true, Some(p)) = (line.starts_with("# part"), &mut programs) {
             p.pause(false);
         }
@@ -139,6 +147,13 @@ fn held(cases: &str, answers: &str, bin: Option<&str>) -> ExitCode {
         if let Some(p) = &mut programs {
             p.ask(word, line, theirs.to_string());
         }
+        #[cfg(feature = "archive")]
+        if let Some(ours) = in_archive {
+            linked += 1;
+            if theirs.strip_prefix(word) != Some(&format!(" {ours}")) {
+                tally.other(line, &format!("(archive) {word} {ours}"), &format!("(second) {theirs}"));
+            }
+        }
         match said {
             None => tally.count(word, 1),
             Some(said) if theirs.strip_prefix(word) == Some(&format!(" {said}")) => tally.count(word, 0),
@@ -146,6 +161,8 @@ fn held(cases: &str, answers: &str, bin: Option<&str>) -> ExitCode {
         }
     }
     assert!(second.next().is_none(), "the second program answers no more than the cases");
+    #[cfg(feature = "archive")]
+    println!("archive {linked}");
     proved(programs, &mut tally);
     tally.say(&side)
 }
@@ -174,6 +191,29 @@ fn ours(bin: &str, seed: u64, count: u64) -> ExitCode {
         programs.pause(false);
     }
     proved(Some(programs), &mut tally);
+    tally.say(&side)
+}
+
+/// The crate and the archives; what one of them has no answer for is left out.
+#[cfg(feature = "archive")]
+fn in_one(seed: u64, count: u64) -> ExitCode {
+    let mut rng = generate::Rng::new(seed);
+    let (mut side, mut ours) = (Crate::default(), archive::Archive::default());
+    let (mut tally, mut held) = (Tally::default(), 0);
+    while held < count {
+        let mut cases = generate::Cases::default();
+        generate::more(&mut rng, &mut cases);
+        for line in &cases.lines {
+            let (theirs, ours) = (side.answer(line), ours.answer(line));
+            let (Some((word, Some(theirs))), Some((_, Some(ours)))) = (theirs, ours) else { continue };
+            held += 1;
+            if theirs != ours {
+                tally.other(line, &format!("(archive) {word} {ours}"), &format!("(crate) {word} {theirs}"));
+            }
+        }
+        held += extracts::held(&mut rng, &mut side);
+    }
+    println!("archive {held}");
     tally.say(&side)
 }
 

@@ -9,7 +9,10 @@ const MOST: usize = 262144;
 
 const NUMBERS5: [&str; 12] = ["get", "len", "find", "remove", "remove_at", "check_geometry", "cylinder_size", "update_chs",
     "push", "push_all", "new_from", "update_from"];
-const NUMBERS6: [&str; 6] = ["free", "first_place", "last_place", "best_place", "most", "most_for"];
+const NUMBERS6: [&str; 8] =
+    ["free", "first_place", "last_place", "best_place", "most", "most_for", "free_into", "update_lent"];
+const NUMBERS7: [&str; 3] = ["write_table", "write_header", "read_o"];
+const PROGRAMS: [&str; 6] = ["numbers", "numbers4", "numbers5", "numbers6", "numbers7", "numbers8"];
 
 /// The program that has a command.
 fn owner(word: &str) -> Option<usize> {
@@ -18,6 +21,8 @@ fn owner(word: &str) -> Option<usize> {
         _ if ["chs_", "entry_", "mbr_", "ebr_", "extract_"].iter().any(|p| word.starts_with(p)) => Some(0),
         _ if NUMBERS5.contains(&word) => Some(2),
         _ if NUMBERS6.contains(&word) => Some(3),
+        _ if NUMBERS7.contains(&word) => Some(4),
+        _ if word.starts_with("careful_") => Some(5),
         _ => None,
     }
 }
@@ -32,7 +37,7 @@ struct Part {
 
 pub struct Ours {
     bin: PathBuf,
-    parts: [Part; 4],
+    parts: [Part; 6],
     /// Answers that were compared.
     pub equal: u64,
     /// The line, the program's answer, the other one.
@@ -87,7 +92,7 @@ impl Ours {
             return;
         }
         assert!(part.text.len() < MOST, "too many cases for one run");
-        let program = self.bin.join(["numbers", "numbers4", "numbers5", "numbers6"][k]);
+        let program = self.bin.join(PROGRAMS[k]);
         let mut child = Command::new(program).stdin(Stdio::piped()).stdout(Stdio::piped()).spawn().expect("a case program");
         child.stdin.take().unwrap().write_all(part.text.as_bytes()).expect("a case program's input");
         let output = child.wait_with_output().expect("a case program's output");

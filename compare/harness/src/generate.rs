@@ -731,13 +731,13 @@ fn careful_cases(rng: &mut Rng, out: &mut Cases) {
 
 /// Some more cases that belong together: they give anew what they work on.
 pub fn more(rng: &mut Rng, out: &mut Cases) {
-    match rng.below(15) {
+    match rng.below(24) {
         0 => chs_cases(rng, out),
         1 => record_cases(rng, out),
         2..=6 => disk_cases(rng, out),
         7 => write_cases(rng, out),
-        8 | 9 => written_cases(rng, out),
-        10 | 11 => careful_cases(rng, out),
+        8..=11 => written_cases(rng, out),
+        12..=17 => careful_cases(rng, out),
         _ => {
             let t = table(rng);
             own_cases(rng, out, &t, None);

@@ -215,11 +215,12 @@ fn write(n: u32, sound: bool) -> Line {
     }
     let mut disk = disk_of(&x);
     let mut out = vec![0; x.len()];
+    let mut after = vec![0; BLOCK];
     let length = x.len() as u64;
     Line {
         operation: "write",
         input: input(n, sound),
-        ours: Box::new(move || ours::write(&b, &x, &mut out)),
+        ours: Box::new(move || ours::write(&b, &x, &mut out, &mut after)),
         theirs: Box::new(move || t.write_into(&mut disk).as_ref().map_or_else(number, |_| length)),
     }
 }

@@ -2,6 +2,7 @@
 //!
 //!     bench time      nanoseconds a call, medians, both sides in turn
 //!     bench calls     one measured call each, for callgrind; prints their labels in this order
+//!     bench stack     bytes of stack that a call uses
 //!     bench copies    large copies in one call (built with the feature `copies`)
 
 #[cfg(feature = "copies")]
@@ -9,6 +10,7 @@ mod copies;
 mod disk;
 mod lines;
 mod ours;
+mod stack;
 
 use std::hint::black_box;
 use std::time::Instant;
@@ -28,9 +30,10 @@ fn main() {
     match std::env::args().nth(1).as_deref() {
         Some("time") => lines.iter_mut().for_each(time),
         Some("calls") => lines.iter_mut().for_each(calls),
+        Some("stack") => lines.iter_mut().for_each(deep),
         #[cfg(feature = "copies")]
         Some("copies") => lines.iter_mut().for_each(copied),
-        _ => panic!("usage: bench time | calls | copies"),
+        _ => panic!("usage: bench time | calls | stack | copies"),
     }
 }
 
@@ -80,6 +83,10 @@ fn calls(l: &mut Line) {
         black_box(measured_call(f));
         println!("{}|{}|{side}", l.operation, l.input);
     }
+}
+
+fn deep(l: &mut Line) {
+    println!("{}|{}|{}|{}", l.operation, l.input, stack::used(&mut l.ours), stack::used(&mut l.theirs));
 }
 
 #[cfg(feature = "copies")]

@@ -17,7 +17,12 @@ extern "C" {
 
 #[link(name = "abiwrite", kind = "static")]
 extern "C" {
+    #[cfg(not(feature = "after"))]
     fn cv_write_into(b: *const u8, n: usize, x: *const u8, m: usize, out: *mut u8, room: usize) -> u64;
+    #[cfg(feature = "after")]
+    fn cv_write_into(
+        b: *const u8, n: usize, x: *const u8, m: usize, out: *mut u8, room: usize, after: *mut u8, length: usize,
+    ) -> u64;
 }
 
 #[link(name = "abicareful", kind = "static")]
@@ -50,8 +55,15 @@ pub fn find(b: &[u8], sector: u32) -> u64 {
     unsafe { cv_find_at_sector(b.as_ptr(), b.len(), sector) }
 }
 
-pub fn write(b: &[u8], x: &[u8], out: &mut [u8]) -> u64 {
-    unsafe { cv_write_into(b.as_ptr(), b.len(), x.as_ptr(), x.len(), out.as_mut_ptr(), out.len()) }
+/// The table afterwards goes to the second block, if the function answers it.
+pub fn write(b: &[u8], x: &[u8], out: &mut [u8], _after: &mut [u8]) -> u64 {
+    let (p, n, q, m, to, room) = (b.as_ptr(), b.len(), x.as_ptr(), x.len(), out.as_mut_ptr(), out.len());
+    unsafe {
+        #[cfg(not(feature = "after"))]
+        return cv_write_into(p, n, q, m, to, room);
+        #[cfg(feature = "after")]
+        cv_write_into(p, n, q, m, to, room, _after.as_mut_ptr(), _after.len())
+    }
 }
 
 pub fn careful_push(x: &[u8], align: u32, g: (u16, u8, u8), sys: u8, start: u32, sectors: u32, out: &mut [u8]) -> u64 {

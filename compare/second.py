@@ -22,24 +22,27 @@ import answers as a
 import model as m
 from model import CHS, Refusal
 
-PIECES = re.compile(rb"\0+|[^\0]+")
+PRIME = 4294967291
+RUN = re.compile(rb"(.)\1{7,}", re.DOTALL)
+THIRTIETH = pow(30, -1, PRIME)
 
 
 @lru_cache(maxsize=4096)
 def checksum(b):
-    """answers.checksum, which goes byte by byte, quicker: runs of zeros at once."""
-    total = 0
-    for piece in PIECES.finditer(b):
-        piece = piece.group()
-        if piece[0] == 0:
-            total = total * pow(31, len(piece), 4294967291) % 4294967291
-        else:
-            for byte in piece:
-                total = (total * 31 + byte) % 4294967291
+    """answers.checksum, which goes byte by byte, quicker: runs of one byte at once."""
+    total = at = 0
+    for run in RUN.finditer(b):
+        for byte in b[at:run.start()]:
+            total = (total * 31 + byte) % PRIME
+        at = run.end()
+        power = pow(31, at - run.start(), PRIME)
+        total = (total * power + run.group()[0] * (power - 1) * THIRTIETH) % PRIME
+    for byte in b[at:]:
+        total = (total * 31 + byte) % PRIME
     return total
 
 
-for sample in (b"", b"\0", b"\0\0\7\0\0\xff\1\0", bytes(range(256)) * 3, bytes(900) + b"\5"):
+for sample in (b"", b"\0", b"\0\0\7\0\0\xff\1\0", bytes(range(256)) * 3, bytes(900) + b"\5", b"\xff" * 99 + b"\7" * 8 + b"\7\1"):
     assert checksum(sample) == a.checksum(sample)
 a.checksum = checksum
 

@@ -6,10 +6,11 @@ The commands are those of ../second/answers.py and, beside them, commands on T, 
       partition its entry, EBR place, link sectors or none, first link CHS, last link CHS or none, CODE
 
 CODE is a number from 0 to 255: the code's first byte, and three times it, mod 256, its last; else it is zeros.
-A command t_NAME is NAME on T, without the six numbers in front; t_push is push_all. Two are only here:
+A command t_NAME is NAME on T, without the six numbers in front; t_push is push_all. Three are only here:
 
     t_write           writes T to the extract X, out to O: what it says, the table, O's length and checksum
     t_write_header    the same for T's header alone, without the table
+    t_sound           is T sound?
 """
 import os
 import re
@@ -134,7 +135,11 @@ def t_write_header(s):
     return lent_out(s, m.write_header_only, s.t.header, s.x, s.o)
 
 
-for f in (t_update_from, t_write, t_write_header):
+def t_sound(s):
+    return a.truth(m.sound(s.t))
+
+
+for f in (t_update_from, t_write, t_write_header, t_sound):
     a.COMMANDS[f.__name__] = f
 
 if __name__ == "__main__":

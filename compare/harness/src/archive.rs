@@ -48,6 +48,12 @@ extern "C" {
     fn cv_get_cylinder_size(b: *const u8, n: usize) -> u64;
 }
 
+#[cfg(feature = "sound")]
+#[link(name = "abisound", kind = "static")]
+extern "C" {
+    fn cv_is_sound(b: *const u8, n: usize) -> u64;
+}
+
 #[cfg(feature = "edit")]
 #[link(name = "abiedit", kind = "static")]
 extern "C" {
@@ -301,6 +307,8 @@ impl Archive {
                     Some(format!("{shown} {} {} {}", text::table(&after), o.len(), text::checksum(o)))
                 }
                 "write_header" => self.write_header(t, x),
+                #[cfg(feature = "sound")]
+                "sound" => Some(packed(cv_is_sound(p, n), |n| text::truth(n == 1))),
                 _ => places(word, &b, &mut w).or_else(|| looks(word, t, &b, &mut w)).or_else(|| edits(word, t, &b, w, x)),
             }
         }

@@ -224,6 +224,7 @@ impl Crate {
             }
             "write_header" => self.write_header(t, &self.given.x.clone()),
             "free_into" => Some(free_into(t, w)),
+            "sound" => None,
             "update_lent" => self.update_chs(t, w.usize()),
             _ => places(word, t, w),
         }

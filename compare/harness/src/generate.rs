@@ -584,6 +584,7 @@ fn read_cases(rng: &mut Rng, out: &mut Cases, read: &MBR, disk: &Extract) {
 /// The commands on T.
 fn own_cases(rng: &mut Rng, out: &mut Cases, t: &MBR, disk: Option<Extract>) {
     out.lines.push(text::table_line(t));
+    out.case("t_sound".to_string());
     table_cases(rng, out, t, false);
     let disk = target(rng, t, disk);
     out.lend(&disk.bytes());

@@ -491,3 +491,71 @@ fn edits(word: &str, t: &MBR, b: &[u8], mut w: Words, x: &[u8]) -> Said {
         _ => None,
     }
 }
+
+/// What every function that takes a block says of this one, with the number in the lower half: a block that is none is
+/// refused by all alike. Nothing that is lent to them may change.
+pub fn refusals(b: &[u8], x: &[u8]) -> Vec<(&'static str, u64)> {
+    let (p, n) = (b.as_ptr(), b.len());
+    let mut out = vec![FILL; BLOCK];
+    let (q, m) = (out.as_mut_ptr(), BLOCK);
+    let (y, l) = (x.as_ptr(), x.len());
+    let mut said = Vec::new();
+    unsafe {
+        said.push(("find_at_sector", cv_find_at_sector(p, n, 1) >> 32));
+        said.push(("push", cv_push(p, n, 0x83, 1, 1, q, m) >> 32));
+        said.push(("remove", cv_remove(p, n, 5, q, m).into()));
+        #[cfg(feature = "look")]
+        {
+            said.push(("len", cv_len(p, n) >> 32));
+            said.push(("get", cv_get(p, n, 1, q, m).into()));
+            said.push(("check_geometry", cv_check_geometry(p, n) >> 32));
+            said.push(("get_cylinder_size", cv_get_cylinder_size(p, n) >> 32));
+        }
+        #[cfg(feature = "sound")]
+        said.push(("is_sound", cv_is_sound(p, n) >> 32));
+        #[cfg(feature = "edit")]
+        {
+            said.push(("remove_at_sector", cv_remove_at_sector(p, n, 1, q, m).into()));
+            said.push(("update_from", cv_update_from(p, n, y, l, q, m).into()));
+        }
+        #[cfg(feature = "free")]
+        {
+            said.push(("find_free_sectors", cv_find_free_sectors(p, n, q, m) >> 32));
+            said.push(("find_first_place", cv_find_first_place(p, n, 1) >> 32));
+            said.push(("find_last_place", cv_find_last_place(p, n, 1) >> 32));
+            said.push(("find_optimal_place", cv_find_optimal_place(p, n, 1) >> 32));
+            said.push(("get_maximum_partition_size", cv_get_maximum_partition_size(p, n) >> 32));
+            said.push(("get_maximum_partition_size_for", cv_get_maximum_partition_size_for(p, n, 5) >> 32));
+        }
+        let mut after = vec![FILL; BLOCK];
+        #[cfg(feature = "after")]
+        said.push(("write_into", cv_write_into(p, n, y, l, q, m, after.as_mut_ptr(), BLOCK) >> 32));
+        #[cfg(not(feature = "after"))]
+        said.push(("write_into", cv_write_into(p, n, y, l, q, m) >> 32));
+        out.append(&mut after);
+    }
+    assert!(out.iter().all(|&b| b == FILL), "a refusal has written");
+    said
+}
+
+/// What reading and, on the block of what was read, push and removal say if the lent output is no block.
+pub fn short_outputs(x: &[u8], length: usize) -> [(u64, u64); 3] {
+    let mut out = vec![FILL; length];
+    let (q, m) = (out.as_mut_ptr(), length);
+    let own = |r: Result<(u32, MBR), u64>| r.map_or_else(|k| k, |_| 101);
+    let good = read(x);
+    let b = good.as_ref().map_or(vec![0; BLOCK], block::of_table);
+    let (p, n) = (b.as_ptr(), BLOCK);
+    let said = unsafe {
+        [
+            (cv_read(x.as_ptr(), x.len(), q, m).into(), good.map_or_else(|k| k, |_| 101)),
+            (cv_push(p, n, 0x83, 4096, 4096, q, m) >> 32, own(block_of(Some(&b), |o, l| cv_push(p, n, 0x83, 4096, 4096, o, l)))),
+            (
+                cv_remove(p, n, 5, q, m).into(),
+                own(block_of(Some(&b), |o, l| u64::from(cv_remove(p, n, 5, o, l)) << 32)),
+            ),
+        ]
+    };
+    assert!(out.iter().all(|&b| b == FILL), "a refusal has written");
+    said
+}

@@ -1,9 +1,11 @@
-//! What the archive says of whole extracts, held to what mbrman reads and to the adapter's own extracts.
+//! What the archive says of whole extracts, held to what mbrman reads and to the adapter's own extracts; and of blocks that
+//! are none, held to the rule of include/crumbvessel.h.
 
 use mbrman::MBR;
 
 use crate::adapter::{Extract, RECORD};
 use crate::archive::{self, Archive};
+use crate::block::{self, BLOCK};
 use crate::crate_side::Crate;
 use crate::generate::{self, Rng};
 use crate::refusal::Refused;
@@ -69,4 +71,35 @@ pub fn held(rng: &mut Rng, side: &mut Crate) -> u64 {
     let said = cases.lines.iter().filter_map(|line| ours.answer(line)).last().and_then(|(_, said)| said);
     assert_eq!(said, Some(laid(extract.as_ref(), lba, &record, vec![x.len() as u8; room])), "lay over {x:?} at {lba}");
     5
+}
+
+/// The first of 101, 6 and 102 that holds of a block.
+fn refusal(b: &[u8]) -> u64 {
+    if b.len() != BLOCK {
+        return 101;
+    }
+    if u32::from_le_bytes(b[12..16].try_into().unwrap()) > 24 {
+        return 6;
+    }
+    let tags = (0..24).flat_map(|i| [b[block::slot(i) + 22], b[block::slot(i) + 31]]);
+    if tags.into_iter().any(|tag| tag > 1) { 102 } else { 0 }
+}
+
+/// Blocks with one or two rules broken: every function says the same of them. Outputs that are no block.
+pub fn blocks(rng: &mut Rng) -> u64 {
+    let (t, x, length) = generate::block_numbers(rng);
+    let mut b = block::of_table(&t);
+    generate::break_block(rng, &mut b);
+    let mut held = 0;
+    if refusal(&b) != 0 {
+        for (name, said) in archive::refusals(&b, &x) {
+            assert_eq!(said, refusal(&b), "{name} of a block that is none");
+            held += 1;
+        }
+    }
+    for (said, expected) in archive::short_outputs(&x, length) {
+        assert_eq!(said, expected, "an output of {length} bytes, for {x:?}");
+        held += 1;
+    }
+    held
 }

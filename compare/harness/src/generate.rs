@@ -3,6 +3,8 @@
 use mbrman::{LogicalPartition, MBRHeader, MBRPartitionEntry, CHS, MBR};
 
 use crate::adapter::{Disk, Extract, RECORD};
+#[cfg(feature = "archive")]
+use crate::block::{slot, BLOCK};
 use crate::refusal::{run, Operation};
 use crate::text;
 
@@ -455,6 +457,33 @@ pub fn disk_numbers(rng: &mut Rng) -> (Vec<u8>, u32, Vec<u8>) {
     }
     let length = rng.of(&[RECORD, RECORD, RECORD, RECORD, RECORD, RECORD - 1, RECORD + 1, 0]);
     (x, near(rng, &t), vec![rng.byte(); length])
+}
+
+/// A table; an extract, now and then broken; a length that no block has.
+#[cfg(feature = "archive")]
+pub fn block_numbers(rng: &mut Rng) -> (MBR, Vec<u8>, usize) {
+    let t = table(rng);
+    let mut x = written(&t).bytes();
+    if rng.one_in(5) {
+        x = broken(rng, x);
+    }
+    (t, x, rng.of(&[0, 1, 540, BLOCK - 1, BLOCK + 1, 2 * BLOCK]))
+}
+
+/// Breaks one or two rules of a block: its length, its count, a tag, of a slot in use or not.
+#[cfg(feature = "archive")]
+pub fn break_block(rng: &mut Rng, b: &mut Vec<u8>) {
+    for _ in 0..1 + rng.below(2) {
+        match rng.below(4) {
+            0 if b.len() == BLOCK => b.resize(rng.of(&[0, 16, 540, BLOCK - 1, BLOCK + 1, 2 * BLOCK]), 0),
+            1 if b.len() >= 16 => b[12..16].copy_from_slice(&rng.of(&[25, 26, 255, 256, BIG]).to_le_bytes()),
+            _ if b.len() >= BLOCK => {
+                let at = slot(rng.below(24) as usize) + rng.of(&[22, 31]);
+                b[at] = rng.of(&[2, 3, 128, 255]);
+            }
+            _ => {}
+        }
+    }
 }
 
 /// Reading a disk; then the table that it reads as, if any.

@@ -212,6 +212,7 @@ fn in_one(seed: u64, count: u64) -> ExitCode {
             }
         }
         held += extracts::held(&mut rng, &mut side);
+        held += extracts::blocks(&mut rng);
     }
     println!("archive {held}");
     tally.say(&side)

@@ -730,6 +730,44 @@ fn request(rng: &mut Rng, t: &MBR) -> String {
     format!("{align} {} {} {} {sys} {start} {sectors}", geometry.0, geometry.1, geometry.2)
 }
 
+/// Puts one number of a written table at a limit of the rules for a sound one, or just past it.
+fn at_limit(rng: &mut Rng, t: &MBR, disk: &mut Extract) {
+    let number = |r: &[u8], at: usize| u32::from_le_bytes(r[at..at + 4].try_into().unwrap());
+    let n = t.logical_partitions.len() as u64;
+    let more = rng.of(&[0, 0, 1, BIG]);
+    let extended = text::entries(&t.header).into_iter().find(|e| e.is_extended());
+    let ebr = (n > 0 && !rng.one_in(3)).then(|| rng.below(n) as usize);
+    let place = ebr.map_or(0, |i| t.logical_partitions[i].absolute_ebr_lba);
+    let d = disk.disk_size;
+    let Some(record) = disk.records.get_mut(&place) else { return };
+    let mut put = |at: usize, value: u32| record[at..at + 4].copy_from_slice(&value.to_le_bytes());
+    let (Some(i), Some(e)) = (ebr, extended) else {
+        let at = 446 + 16 * rng.below(4) as usize;
+        let start = number(record, at + 8);
+        return match rng.below(3) {
+            0 => record[at + 8..at + 12].fill(0),
+            1 => record[at + 12..at + 16].fill(0),
+            _ => record[at + 12..at + 16].copy_from_slice(&d.wrapping_sub(start).wrapping_add(more).to_le_bytes()),
+        };
+    };
+    let end = e.starting_lba.wrapping_add(e.sectors);
+    let next = t.logical_partitions.get(i + 1);
+    let l = &t.logical_partitions[i].partition;
+    match (rng.below(7), next) {
+        (0, _) => record[450] = rng.of(&[0, 5, 0x83]),
+        (1, _) => put(458, 0),
+        (2, _) => put(454, more & 1),
+        (3, _) => put(458, next.map_or(end, |m| m.absolute_ebr_lba).wrapping_sub(l.starting_lba).wrapping_add(more)),
+        (4, Some(_)) => put(474, more & 1),
+        (5, Some(m)) => put(474, end.wrapping_sub(m.absolute_ebr_lba).wrapping_add(more)),
+        (_, Some(m)) => {
+            let covers = m.partition.starting_lba.wrapping_add(m.partition.sectors).wrapping_sub(m.absolute_ebr_lba);
+            put(474, covers.wrapping_add(more));
+        }
+        _ => {}
+    }
+}
+
 /// Careful changes of a disk, most often a sound one; now and then of an extract that is none.
 fn careful_cases(rng: &mut Rng, out: &mut Cases) {
     let mut t = if rng.one_in(5) { table(rng) } else { sound(rng, 24) };
@@ -739,6 +777,9 @@ fn careful_cases(rng: &mut Rng, out: &mut Cases) {
     let mut disk = written(&t);
     for _ in 0..rng.of(&[0, 0, 0, 0, 1, 1, 2]) {
         change_disk(rng, &t, &mut disk);
+    }
+    if rng.one_in(3) {
+        at_limit(rng, &t, &mut disk);
     }
     let mut x = disk.bytes();
     if rng.one_in(20) {

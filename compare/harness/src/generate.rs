@@ -713,15 +713,17 @@ fn request(rng: &mut Rng, t: &MBR) -> String {
         1 => if rng.one_in(4) { rng.edge() } else { near(rng, t) },
         _ => t.align,
     };
-    let x = text::entries(&t.header).into_iter().find(|e| e.is_extended()).map_or(0, |e| e.starting_lba);
+    let extended = text::entries(&t.header).into_iter().find(|e| e.is_extended());
+    let (x, end) = extended.map_or((0, 0), |e| (e.starting_lba, e.starting_lba.wrapping_add(e.sectors)));
     let last = t.logical_partitions.last().map_or(x, |l| l.partition.starting_lba.wrapping_add(l.partition.sectors));
     let start = match rng.below(4) {
         0 => near(rng, t),
         1 => last.wrapping_add(align.wrapping_mul(rng.below(4))).wrapping_add(rng.of(&[0, 1, BIG])),
         _ => last,
     };
-    let sectors = match rng.below(5) {
+    let sectors = match rng.below(6) {
         0 => near(rng, t),
+        5 => end.wrapping_sub(start).wrapping_add(rng.of(&[0, 1, BIG])),
         1 => align.wrapping_mul(1 + rng.below(6)).wrapping_add(rng.of(&[0, 1, BIG])),
         _ => align.wrapping_mul(2 + rng.below(2)),
     };
@@ -736,7 +738,8 @@ fn at_limit(rng: &mut Rng, t: &MBR, disk: &mut Extract) {
     let n = t.logical_partitions.len() as u64;
     let more = rng.of(&[0, 0, 1, BIG]);
     let extended = text::entries(&t.header).into_iter().find(|e| e.is_extended());
-    let ebr = (n > 0 && !rng.one_in(3)).then(|| rng.below(n) as usize);
+    let first = rng.one_in(3);
+    let ebr = (n > 0 && !rng.one_in(3)).then(|| if first { 0 } else { rng.below(n) as usize });
     let place = ebr.map_or(0, |i| t.logical_partitions[i].absolute_ebr_lba);
     let d = disk.disk_size;
     let Some(record) = disk.records.get_mut(&place) else { return };
@@ -744,8 +747,9 @@ fn at_limit(rng: &mut Rng, t: &MBR, disk: &mut Extract) {
     let (Some(i), Some(e)) = (ebr, extended) else {
         let at = 446 + 16 * rng.below(4) as usize;
         let start = number(record, at + 8);
-        return match rng.below(3) {
+        return match rng.below(4) {
             0 => record[at + 8..at + 12].fill(0),
+            3 => record[at + 4] = rng.of(&EXTENDED),
             1 => record[at + 12..at + 16].fill(0),
             _ => record[at + 12..at + 16].copy_from_slice(&d.wrapping_sub(start).wrapping_add(more).to_le_bytes()),
         };
@@ -778,7 +782,7 @@ fn careful_cases(rng: &mut Rng, out: &mut Cases) {
     for _ in 0..rng.of(&[0, 0, 0, 0, 1, 1, 2]) {
         change_disk(rng, &t, &mut disk);
     }
-    if rng.one_in(3) {
+    if rng.one_in(2) {
         at_limit(rng, &t, &mut disk);
     }
     let mut x = disk.bytes();

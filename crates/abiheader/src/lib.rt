@@ -1,13 +1,11 @@
 // Headers alone for programs in C and Rust: a header is the 520 bytes that it has in a block.
 use extract::Outcome;
-use layover::Laid;
 use mbr::MBRHeader;
 ghost use mathlib.Core.Path.{_≡_};
 ghost use Prim.Native.Nat.{_≤_};
 ghost use lib.ListN.{length};
 ghost use Rattle.base.specs.Said.{gives, andThen, failure};
 ghost use Rattle.block.specs.Block.{headerPart};
-ghost use Rattle.layover.specs.Answers.{laidSaid};
 ghost use Rattle.read.specs.Read.{headerSays as readSays};
 ghost use Rattle.write.specs.Answers.{headerSays};
 ghost use Rattle.abi.specs.Packed.{packed, status};
@@ -55,15 +53,6 @@ pub extern "C" fn cv_read_header(x: &[u8], out: &mut [u8]) -> u8
     }
 }
 
-fn of_laid(l: Laid) -> u64
-    ensures { λ r. ⌜ r ≡ packed (laidSaid l) ⌝ }
-{
-    match l {
-        Laid::Length(n) => n as u64,
-        Laid::Refused(r) => abi::upper(r.number),
-    }
-}
-
 // Writes the header in lent bytes over an extract, the new extract to `out`: its length; 101, writing's refusals.
 #[no_mangle]
 pub extern "C" fn cv_write_header(header: &[u8], x: &[u8], out: &mut [u8]) -> u64
@@ -74,5 +63,5 @@ pub extern "C" fn cv_write_header(header: &[u8], x: &[u8], out: &mut [u8]) -> u6
         return abi::upper(101);
     }
     let h = partread::get_header(header);
-    of_laid(write::write_header(h, x, out))
+    abi::of_laid(write::write_header(h, x, out))
 }

@@ -792,7 +792,8 @@ fn careful_cases(rng: &mut Rng, out: &mut Cases) {
     out.lend(&x);
     let n = t.logical_partitions.len() as u32;
     for k in 0..10 {
-        let room = if rng.one_in(8) { rng.below(1033) } else { 1032 + rng.below(9) };
+        let any = rng.below(1033);
+        let room = if rng.one_in(8) { rng.of(&[1031, 1031, 516, any]) } else { 1032 + rng.below(9) };
         out.lines.push(format!("o {room} {}", rng.byte()));
         if k % 2 == 0 || k == 9 {
             out.case(format!("careful_push {}", request(rng, &t)));

@@ -25,9 +25,9 @@ pub struct Request {
 /// stores are put one by one, each on the medium and read back before the next. Answers the table as it reads afterwards.
 ///
 /// # Errors
-/// Reading's, 20, 23, push's, 12, 21, and then nothing was written. I/O, also where a sector does not read back as it was
-/// written; then the disk reads as the table before or the one after, unless the message says that a sector could not be
-/// put back.
+/// Reading's, 20, 23, push's, 12, 21, and then nothing was written. I/O: after a write that fails the sector's old bytes
+/// are put back, and the error says so if that fails too. What is on a medium that cannot be synced, or where a sector
+/// does not read back as it was written, nobody knows: read it again.
 pub fn careful_push<M>(medium: &mut M, sector_size: u32, request: &Request) -> Result<MBR>
 where
     M: Medium + ?Sized,

@@ -3,7 +3,7 @@
 mod common;
 use common::{disk_k, listing, noted_k, table_k, Event};
 
-use crumbvessel::{careful_push, careful_remove, Error, Request, MBR};
+use crumbvessel::{careful_push, careful_remove, Error, Medium, Request, MBR};
 
 const BEFORE: &str = "disk 20480 align 2048 logical 1\n1 05 00 4096 16384\n5 83 00 6144 2048\n";
 const AFTER: &str = "disk 20480 align 2048 logical 2\n1 05 00 4096 16384\n5 83 00 6144 2048\n6 83 00 10240 2048\n";
@@ -130,4 +130,12 @@ fn a_file_is_changed_on_its_device() {
     assert_eq!(listing(&mut file, 512), AFTER);
     careful_remove(&mut file, 512, 6).unwrap();
     assert_eq!(MBR::read_from(&mut file, 512).unwrap(), table_k());
+}
+
+/// `flush` says nothing of a file's medium and always succeeds; the device null has none to wait for.
+#[test]
+fn a_file_waits_for_its_device() {
+    let mut null = std::fs::OpenOptions::new().write(true).open("/dev/null").unwrap();
+    assert!(std::io::Write::flush(&mut null).is_ok());
+    assert!(Medium::sync(&mut null).is_err());
 }

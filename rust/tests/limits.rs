@@ -247,6 +247,7 @@ fn small_and_broken_disks() {
 #[test]
 fn headers_are_written_alone() {
     let mut header = MBRHeader::new([1, 2, 3, 4]);
+    assert_eq!(header.disk_signature, [1, 2, 3, 4]);
     assert_eq!((header.is_copy_protected(), header.boot_signature), (Some(false), [0x55, 0xaa]));
     header[4] = entry(0x0c, 1, 2);
     header.copy_protected = [0x5a, 0x5a];

@@ -42,12 +42,10 @@ pub extern "C" fn cv_remove_at_sector(b: &[u8], sector: u32, out: &mut [u8]) -> 
     ensures said { λ r. ⌜ r ≡ number (alone (length (now (out .entry))) (andThen (blockSays (now (b .entry))) (λ t. removeAtSays t sector))) ⌝ }
     ensures left { λ r. ⌜ now (out .exit) ≡ blockAfter (now (out .entry)) (andThen (blockSays (now (b .entry))) (λ t. removeAtSays t sector)) ⌝ }
 {
-    let a = blockread::get(b);
-    let answer = a.answer;
-    match answer {
+    match blockread::check(b) {
         Answer::Refused(k) => k,
         Answer::Done => {
-            let t = a.table;
+            let t = partread::get_table(b);
             remove_at_on(t, sector, out)
         }
     }
@@ -88,12 +86,10 @@ pub extern "C" fn cv_update_from(b: &[u8], x: &[u8], out: &mut [u8]) -> u8
     ensures said { λ r. ⌜ r ≡ number (alone (length (now (out .entry))) (andThen (blockSays (now (b .entry))) (λ t. updateSays t (now (x .entry))))) ⌝ }
     ensures left { λ r. ⌜ now (out .exit) ≡ blockAfter (now (out .entry)) (andThen (blockSays (now (b .entry))) (λ t. updateSays t (now (x .entry)))) ⌝ }
 {
-    let a = blockread::get(b);
-    let answer = a.answer;
-    match answer {
+    match blockread::check(b) {
         Answer::Refused(k) => k,
         Answer::Done => {
-            let t = a.table;
+            let t = partread::get_table(b);
             update_on(t, x, out)
         }
     }

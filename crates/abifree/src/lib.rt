@@ -79,12 +79,10 @@ pub extern "C" fn cv_find_free_sectors(b: &[u8], out: &mut [u8]) -> u64
     ensures said { λ r. ⌜ r ≡ packed (howMany (runsFor (blockSays (now (b .entry))) (length (now (out .entry))))) ⌝ }
     ensures left { λ r. ⌜ now (out .exit) ≡ runsAfter (now (out .entry)) (runsFor (blockSays (now (b .entry))) (length (now (out .entry)))) ⌝ }
 {
-    let a = blockread::get(b);
-    let answer = a.answer;
-    match answer {
+    match blockread::check(b) {
         Answer::Refused(k) => abi::upper(k),
         Answer::Done => {
-            let t = a.table;
+            let t = partread::get_table(b);
             free_on(t, out)
         }
     }
@@ -114,12 +112,10 @@ fn of_place(p: Place) -> u64
 fn place_in(b: &[u8], which: Which, size: u32) -> u64
     ensures { λ r. ⌜ r ≡ packedOption (andThen (blockSays (now (b .entry))) (λ t. placeBy which t size)) ⌝ }
 {
-    let a = blockread::get(b);
-    let answer = a.answer;
-    match answer {
+    match blockread::check(b) {
         Answer::Refused(k) => abi::upper(k),
         Answer::Done => {
-            let t = a.table;
+            let t = partread::get_table(b);
             of_place(place_of(t, which, size))
         }
     }
@@ -171,12 +167,10 @@ fn of_size(s: Size) -> u64
 fn size_in(b: &[u8], whose: Whose) -> u64
     ensures { λ r. ⌜ r ≡ packed (andThen (blockSays (now (b .entry))) (sizeFor whose)) ⌝ }
 {
-    let a = blockread::get(b);
-    let answer = a.answer;
-    match answer {
+    match blockread::check(b) {
         Answer::Refused(k) => abi::upper(k),
         Answer::Done => {
-            let t = a.table;
+            let t = partread::get_table(b);
             of_size(size_of(t, whose))
         }
     }

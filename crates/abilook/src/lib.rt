@@ -41,12 +41,10 @@ fn find_on(t: MBR, sector: u32) -> u64
 pub extern "C" fn cv_find_at_sector(b: &[u8], sector: u32) -> u64
     ensures { λ r. ⌜ r ≡ packedOption (andThen (blockSays (now (b .entry))) (λ t. findSays t sector)) ⌝ }
 {
-    let a = blockread::get(b);
-    let answer = a.answer;
-    match answer {
+    match blockread::check(b) {
         Answer::Refused(k) => abi::upper(k),
         Answer::Done => {
-            let t = a.table;
+            let t = partread::get_table(b);
             find_on(t, sector)
         }
     }
@@ -66,12 +64,10 @@ fn len_on(t: MBR) -> u64
 pub extern "C" fn cv_len(b: &[u8]) -> u64
     ensures { λ r. ⌜ r ≡ packed (andThen (blockSays (now (b .entry))) lenSays) ⌝ }
 {
-    let a = blockread::get(b);
-    let answer = a.answer;
-    match answer {
+    match blockread::check(b) {
         Answer::Refused(k) => abi::upper(k),
         Answer::Done => {
-            let t = a.table;
+            let t = partread::get_table(b);
             len_on(t)
         }
     }
@@ -96,12 +92,10 @@ fn check_on(t: MBR) -> u64
 pub extern "C" fn cv_check_geometry(b: &[u8]) -> u64
     ensures { λ r. ⌜ r ≡ packedBool (andThen (blockSays (now (b .entry))) checkGeometrySays) ⌝ }
 {
-    let a = blockread::get(b);
-    let answer = a.answer;
-    match answer {
+    match blockread::check(b) {
         Answer::Refused(k) => abi::upper(k),
         Answer::Done => {
-            let t = a.table;
+            let t = partread::get_table(b);
             check_on(t)
         }
     }
@@ -121,12 +115,10 @@ fn size_on(t: MBR) -> u64
 pub extern "C" fn cv_get_cylinder_size(b: &[u8]) -> u64
     ensures { λ r. ⌜ r ≡ packed (andThen (blockSays (now (b .entry))) cylinderSizeSays) ⌝ }
 {
-    let a = blockread::get(b);
-    let answer = a.answer;
-    match answer {
+    match blockread::check(b) {
         Answer::Refused(k) => abi::upper(k),
         Answer::Done => {
-            let t = a.table;
+            let t = partread::get_table(b);
             size_on(t)
         }
     }
@@ -162,12 +154,10 @@ pub extern "C" fn cv_get(b: &[u8], number: u32, out: &mut [u8]) -> u8
     ensures said { λ r. ⌜ r ≡ entryStatus (length (now (out .entry))) (andThen (blockSays (now (b .entry))) (λ t. getSays t number)) ⌝ }
     ensures left { λ r. ⌜ now (out .exit) ≡ entryAfter (now (out .entry)) (andThen (blockSays (now (b .entry))) (λ t. getSays t number)) ⌝ }
 {
-    let a = blockread::get(b);
-    let answer = a.answer;
-    match answer {
+    match blockread::check(b) {
         Answer::Refused(k) => k,
         Answer::Done => {
-            let t = a.table;
+            let t = partread::get_table(b);
             get_on(t, number, out)
         }
     }

@@ -23,12 +23,10 @@ fn sound_on(t: MBR) -> u64
 pub extern "C" fn cv_is_sound(b: &[u8]) -> u64
     ensures { λ r. ⌜ r ≡ packedBool (andThen (blockSays (now (b .entry))) soundSays) ⌝ }
 {
-    let a = blockread::get(b);
-    let answer = a.answer;
-    match answer {
+    match blockread::check(b) {
         Answer::Refused(k) => abi::upper(k),
         Answer::Done => {
-            let t = a.table;
+            let t = partread::get_table(b);
             sound_on(t)
         }
     }

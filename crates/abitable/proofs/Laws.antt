@@ -5,11 +5,12 @@ use mathlib.Core.List.{List}
 use Prim.Native.Nat.{ℕ}
 use lib.ListN.{length}
 use native.Mathlib.Omega.{arith}
+use borrow.Author.Tests.{eqb-true}
 use Rattle.base.specs.Said.{Said, gives, refuses, andThen, failure}
-use Rattle.base.specs.Checks.{checked, first-fail}
-use Rattle.base.proofs.Checks.{checked-some, checked-none}
+use Rattle.base.specs.Checks.{first-fail}
+use Rattle.base.proofs.Checks.{checked-some, checked-none, none-fails}
 use Rattle.table.specs.declared.MBR.{MBR}
-use Rattle.block.specs.Block.{tableIn, putChecks, blockChecks, noTable}
+use Rattle.block.specs.Block.{tableIn, putChecks, blockChecks}
 use Rattle.read.specs.Read.{Table, tableOf, tableFor}
 use Rattle.lookup.specs.Remove.{removeChecks, removedTable}
 use Rattle.abi.specs.Packed.{upper, packed}
@@ -34,9 +35,12 @@ put-done t room v h = checked-none (putChecks t room) refuses (gives v) h
 pub block-refused : (b : List ℕ) (k : ℕ) → first-fail (blockChecks b) ≡ some k → blockSays b ≡ refuses k
 block-refused b k h = checked-some (blockChecks b) refuses (gives (tableIn b)) k h
 
-pub block-done : (b : List ℕ) (t : MBR) → first-fail (blockChecks b) ≡ none → t ≡ checked (blockChecks b) (λ _. noTable) (tableIn b) → blockSays b ≡ gives t
-block-done b t h e =
-    checked-none (blockChecks b) refuses (gives (tableIn b)) h ∙ ap gives (sym (e ∙ checked-none (blockChecks b) (λ _. noTable) (tableIn b) h))
+pub block-done : (b : List ℕ) (t : MBR) → first-fail (blockChecks b) ≡ none → t ≡ tableIn b → blockSays b ≡ gives t
+block-done b t h e = checked-none (blockChecks b) refuses (gives (tableIn b)) h ∙ ap gives (sym e)
+
+-- a block that passes its checks has a block's length
+pub block-length : (b : List ℕ) → first-fail (blockChecks b) ≡ none → length b ≡ 12108
+block-length b h = eqb-true _ _ (none-fails (blockChecks b) h .0)
 
 pub removal-refused : (t : MBR) (n k : ℕ) → first-fail (removeChecks t n) ≡ some k → removedOn t n ≡ refuses k
 removal-refused t n k h = checked-some (removeChecks t n) refuses (gives (removedTable t n)) k h

@@ -72,12 +72,10 @@ pub extern "C" fn cv_push(b: &[u8], sys: u8, start: u32, sectors: u32, out: &mut
     ensures said { λ r. ⌜ r ≡ packed (andThen (blockSays (now (b .entry))) (λ t. pushOn t sys start sectors (length (now (out .entry))))) ⌝ }
     ensures left { λ r. ⌜ now (out .exit) ≡ blockAfter (now (out .entry)) (andThen (blockSays (now (b .entry))) (λ t. pushedOn t sys start sectors)) ⌝ }
 {
-    let a = blockread::get(b);
-    let answer = a.answer;
-    match answer {
+    match blockread::check(b) {
         Answer::Refused(k) => abi::upper(k),
         Answer::Done => {
-            let t = a.table;
+            let t = partread::get_table(b);
             push_on(t, sys, start, sectors, out)
         }
     }
@@ -105,12 +103,10 @@ pub extern "C" fn cv_remove(b: &[u8], i: u32, out: &mut [u8]) -> u8
     ensures said { λ r. ⌜ r ≡ number (alone (length (now (out .entry))) (andThen (blockSays (now (b .entry))) (λ t. removedOn t i))) ⌝ }
     ensures left { λ r. ⌜ now (out .exit) ≡ blockAfter (now (out .entry)) (andThen (blockSays (now (b .entry))) (λ t. removedOn t i)) ⌝ }
 {
-    let a = blockread::get(b);
-    let answer = a.answer;
-    match answer {
+    match blockread::check(b) {
         Answer::Refused(k) => k,
         Answer::Done => {
-            let t = a.table;
+            let t = partread::get_table(b);
             remove_on(t, i, out)
         }
     }

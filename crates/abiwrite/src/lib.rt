@@ -51,12 +51,10 @@ pub extern "C" fn cv_write_into(b: &[u8], x: &[u8], out: &mut [u8], after: &mut 
     ensures left { λ r. ⌜ now (out .exit) ≡ outputOf (withRoom (blockSays (now (b .entry))) (length (now (after .entry)))) (now (x .entry)) (now (out .entry)) ⌝ }
     ensures table { λ r. ⌜ now (after .exit) ≡ afterOf (withRoom (blockSays (now (b .entry))) (length (now (after .entry)))) (now (x .entry)) (length (now (out .entry))) (now (after .entry)) ⌝ }
 {
-    let a = blockread::get(b);
-    let answer = a.answer;
-    match answer {
+    match blockread::check(b) {
         Answer::Refused(k) => abi::upper(k),
         Answer::Done => {
-            let t = a.table;
+            let t = partread::get_table(b);
             write_to(t, x, out, after)
         }
     }

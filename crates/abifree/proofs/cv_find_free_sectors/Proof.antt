@@ -2,17 +2,17 @@ use mathlib.Core.Path.{sym, ap, _∙_}
 use lib.ListN.{length}
 use Rattle.base.specs.Said.{refusal}
 use Rattle.abitable.specs.Blocks.{blockSays}
-use Rattle.abitable.proofs.Laws.{block-refused, block-done}
+use Rattle.abitable.proofs.Laws.{block-refused, block-done, block-length}
 use Rattle.abifree.proofs.Laws.{runs-refused, runs-done}
 use borrow.Author.Needs.{needs}
 use Rattle.abifree.proofs.cv_find_free_sectors.Statement.{statement}
 use Rattle.abifree.proofs.cv_find_free_sectors.Tie as tie
 
-get-requires : tie.Need-get-requires
-get-requires c κs = search needs
+check-requires : tie.Need-check-requires
+check-requires c κs = search needs
 
-enum-known-answer : tie.Need-enum-known-answer
-enum-known-answer c = search needs
+enum-known-k : tie.Need-enum-known-k
+enum-known-k c = search needs
 
 upper-requires : tie.Need-upper-requires
 upper-requires c κs = search needs
@@ -20,14 +20,18 @@ upper-requires c κs = search needs
 enum-told : tie.Need-enum-told
 enum-told c = search needs
 
+get-table-requires : tie.Need-get-table-requires
+get-table-requires c κs =
+    block-length (c .before .before .before .before .before .args .b .now) (sym (c .before .before .check .ensures) ∙ ap refusal (c .enum-told .given .1))
+
 free-on-requires : tie.Need-free-on-requires
 free-on-requires c κs = search needs
 
 returns : tie.Need-returns
 returns c =
     let a = c .before .before .before .before .before .before .before .args in
-    let p = c .before .before .before .before .get .ensures in
-    let s = block-refused (a .b .now) _ (sym (p .0) ∙ ap refusal (c .before .before .answer .given .1)) in
+    let p = c .before .before .before .before .check .ensures in
+    let s = block-refused (a .b .now) _ (sym p ∙ ap refusal (c .before .before .k .given .1)) in
     runs-refused (blockSays (a .b .now)) _ _ (a .out .now) s (c .upper .ensures)
 
 same-length : tie.Need-same-length
@@ -36,8 +40,8 @@ same-length c = search needs
 returns-2 : tie.Need-returns-2
 returns-2 c =
     let a = c .before .before .before .before .before .before .before .before .before .before .args in
-    let p = c .before .before .before .before .before .before .before .get .ensures in
-    let s = block-done (a .b .now) _ (sym (p .0) ∙ ap refusal (c .before .before .before .before .before .enum-told .given .1)) (p .1) in
+    let p = c .before .before .before .before .before .before .before .check .ensures in
+    let s = block-done (a .b .now) _ (sym p ∙ ap refusal (c .before .before .before .before .before .enum-told .given .1)) (c .before .before .before .before .get-table .ensures) in
     let q = c .before .before .free-on .ensures in
     runs-done (blockSays (a .b .now)) _ _ (a .out .now) _ s (q .0) (q .1)
 
@@ -45,10 +49,11 @@ pub cv-find-free-sectors-spec : {M : Type 1} → statement M
 cv-find-free-sectors-spec =
     tie.close
     (tie.spec
-    get-requires
-    enum-known-answer
+    check-requires
+    enum-known-k
     upper-requires
     enum-told
+    get-table-requires
     free-on-requires
     returns
     same-length

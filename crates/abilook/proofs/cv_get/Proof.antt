@@ -2,21 +2,25 @@ use mathlib.Core.Path.{refl, sym, ap, _∙_}
 use Rattle.base.specs.Said.{Said, refusal, andThen}
 use Rattle.table.specs.declared.MBR.{MBR}
 use Rattle.lookup.specs.Numbers.{getSays}
-use Rattle.abitable.proofs.Laws.{block-refused, block-done}
+use Rattle.abitable.proofs.Laws.{block-refused, block-done, block-length}
 use Rattle.abitable.specs.Blocks.{blockSays}
 use Rattle.abilook.proofs.Laws.{entry-is}
 use borrow.Author.Needs.{needs}
 use Rattle.abilook.proofs.cv_get.Statement.{statement}
 use Rattle.abilook.proofs.cv_get.Tie as tie
 
-get-requires : tie.Need-get-requires
-get-requires c κs = search needs
+check-requires : tie.Need-check-requires
+check-requires c κs = search needs
 
-enum-known-answer : tie.Need-enum-known-answer
-enum-known-answer c = search needs
+enum-known-k : tie.Need-enum-known-k
+enum-known-k c = search needs
 
 enum-told : tie.Need-enum-told
 enum-told c = search needs
+
+get-table-requires : tie.Need-get-table-requires
+get-table-requires c κs =
+    block-length (c .before .before .before .before .before .args .b .now) (sym (c .before .before .check .ensures) ∙ ap refusal (c .enum-told .given .1))
 
 get-on-requires : tie.Need-get-on-requires
 get-on-requires c κs = search needs
@@ -24,8 +28,8 @@ get-on-requires c κs = search needs
 returns : tie.Need-returns
 returns c =
     let a = c .before .before .before .before .before .before .args in
-    let p = c .before .before .before .get .ensures in
-    let s = block-refused (a .b .now) _ (sym (p .0) ∙ ap refusal (c .before .answer .given .1)) in
+    let p = c .before .before .before .check .ensures in
+    let s = block-refused (a .b .now) _ (sym p ∙ ap refusal (c .before .k .given .1)) in
     let e = ap (λ (z : Said MBR). andThen z (λ (t : MBR). getSays t (a .number))) s in
     entry-is (andThen (blockSays (a .b .now)) (λ (t : MBR). getSays t (a .number))) _ _ (a .out .now) _ e refl refl
 
@@ -35,8 +39,8 @@ same-length c = search needs
 returns-2 : tie.Need-returns-2
 returns-2 c =
     let a = c .before .before .before .before .before .before .before .before .before .before .args in
-    let p = c .before .before .before .before .before .before .before .get .ensures in
-    let s = block-done (a .b .now) _ (sym (p .0) ∙ ap refusal (c .before .before .before .before .before .enum-told .given .1)) (p .1) in
+    let p = c .before .before .before .before .before .before .before .check .ensures in
+    let s = block-done (a .b .now) _ (sym p ∙ ap refusal (c .before .before .before .before .before .enum-told .given .1)) (c .before .before .before .before .get-table .ensures) in
     let e = ap (λ (z : Said MBR). andThen z (λ (t : MBR). getSays t (a .number))) s in
     let q = c .before .before .get-on .ensures in
     entry-is (andThen (blockSays (a .b .now)) (λ (t : MBR). getSays t (a .number))) _ _ (a .out .now) _ e (q .0) (q .1)
@@ -45,9 +49,10 @@ pub cv-get-spec : {M : Type 1} → statement M
 cv-get-spec =
     tie.close
     (tie.spec
-    get-requires
-    enum-known-answer
+    check-requires
+    enum-known-k
     enum-told
+    get-table-requires
     get-on-requires
     returns
     same-length

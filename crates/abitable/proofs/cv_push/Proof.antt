@@ -3,16 +3,16 @@ use lib.ListN.{length}
 use Rattle.base.specs.Said.{refusal}
 use Rattle.table.specs.declared.MBR.{MBR}
 use Rattle.abitable.specs.Blocks.{blockSays, pushOn, pushedOn}
-use Rattle.abitable.proofs.Laws.{block-refused, block-done, on-refused, on-done}
+use Rattle.abitable.proofs.Laws.{block-refused, block-done, block-length, on-refused, on-done}
 use borrow.Author.Needs.{needs}
 use Rattle.abitable.proofs.cv_push.Statement.{statement}
 use Rattle.abitable.proofs.cv_push.Tie as tie
 
-get-requires : tie.Need-get-requires
-get-requires c κs = search needs
+check-requires : tie.Need-check-requires
+check-requires c κs = search needs
 
-enum-known-answer : tie.Need-enum-known-answer
-enum-known-answer c = search needs
+enum-known-k : tie.Need-enum-known-k
+enum-known-k c = search needs
 
 upper-requires : tie.Need-upper-requires
 upper-requires c κs = search needs
@@ -20,14 +20,18 @@ upper-requires c κs = search needs
 enum-told : tie.Need-enum-told
 enum-told c = search needs
 
+get-table-requires : tie.Need-get-table-requires
+get-table-requires c κs =
+    block-length (c .before .before .before .before .before .args .b .now) (sym (c .before .before .check .ensures) ∙ ap refusal (c .enum-told .given .1))
+
 push-on-requires : tie.Need-push-on-requires
 push-on-requires c κs = search needs
 
 returns : tie.Need-returns
 returns c =
     let a = c .before .before .before .before .before .before .before .args in
-    let p = c .before .before .before .before .get .ensures in
-    let s = block-refused (a .b .now) _ (sym (p .0) ∙ ap refusal (c .before .before .answer .given .1)) in
+    let p = c .before .before .before .before .check .ensures in
+    let s = block-refused (a .b .now) _ (sym p ∙ ap refusal (c .before .before .k .given .1)) in
     let w = on-refused (blockSays (a .b .now)) (λ (t : MBR). pushOn t (a .sys) (a .start) (a .sectors) (length (a .out .now))) (λ (t : MBR). pushedOn t (a .sys) (a .start) (a .sectors)) _ (a .out .now) s in
     (c .upper .ensures ∙ w .0, w .1)
 
@@ -37,8 +41,8 @@ same-length c = search needs
 returns-2 : tie.Need-returns-2
 returns-2 c =
     let a = c .before .before .before .before .before .before .before .before .before .before .args in
-    let p = c .before .before .before .before .before .before .before .get .ensures in
-    let s = block-done (a .b .now) _ (sym (p .0) ∙ ap refusal (c .before .before .before .before .before .enum-told .given .1)) (p .1) in
+    let p = c .before .before .before .before .before .before .before .check .ensures in
+    let s = block-done (a .b .now) _ (sym p ∙ ap refusal (c .before .before .before .before .before .enum-told .given .1)) (c .before .before .before .before .get-table .ensures) in
     let q = c .before .before .push-on .ensures in
     on-done (blockSays (a .b .now)) _ (λ (t : MBR). pushOn t (a .sys) (a .start) (a .sectors) (length (a .out .now))) (λ (t : MBR). pushedOn t (a .sys) (a .start) (a .sectors)) _ (a .out .now) _ s (q .0) (q .1)
 
@@ -46,10 +50,11 @@ pub cv-push-spec : {M : Type 1} → statement M
 cv-push-spec =
     tie.close
     (tie.spec
-    get-requires
-    enum-known-answer
+    check-requires
+    enum-known-k
     upper-requires
     enum-told
+    get-table-requires
     push-on-requires
     returns
     same-length

@@ -10,7 +10,8 @@ use lib.ListN.{length, take, getD, length-append}
 use lib.Seq.{take-at, take-suc, take-all, getD-append-add}
 use borrow.Author.Tests.{le-leb, eq-eqb}
 use Rattle.base.specs.Bytes.{bytesAt, number, bytesOf, little}
-use Rattle.base.specs.Checks.{checked, first-fail}
+use Rattle.base.specs.Said.{gives, refuses}
+use Rattle.base.specs.Checks.{answer, first-fail}
 use Rattle.base.proofs.Bytes.{number-bytesOf, part-within}
 use Rattle.base.proofs.Checks.{checked-none}
 use Rattle.chs.specs.declared.CHS.{CHS}
@@ -26,7 +27,7 @@ use Rattle.table.specs.declared.MaybeChs.the-variants.{Absent as NoChs, Present
 use Rattle.table.specs.declared.LogicalPartition.{LogicalPartition}
 use Rattle.table.specs.declared.MBR.{MBR}
 use Rattle.table.specs.Table.{most, noLogical}
-use Rattle.block.specs.Block.{part, chsPart, chsIn, entryPart, entryIn, sectorsPart, sectorsIn, lastPart, lastIn, slotFront, slotPart, slotOf, slotTagged, codePart, entriesPart, headerPart, headerIn, frontPart, slotsPart, slotAt, slotsIn, tagged, blockBytes, tableIn, blockChecks, noTable}
+use Rattle.block.specs.Block.{part, chsPart, chsIn, entryPart, entryIn, sectorsPart, sectorsIn, lastPart, lastIn, slotFront, slotPart, slotOf, slotTagged, codePart, entriesPart, headerPart, headerIn, frontPart, slotsPart, slotAt, slotsIn, tagged, blockBytes, tableIn, blockChecks}
 use Rattle.block.specs.Fits.{ChsFits, EntryFits, SectorsFit, LastFits, SlotFits, SlotsFit, HeaderFits, TableFits}
 use Rattle.block.proofs.Laws.{length-front, length-slot, part-at}
 
@@ -274,5 +275,5 @@ module _ (t : MBR) (k : TableFits t) where
       rw (eq-eqb _ _ length-block, count-back, le-leb _ _ c, slots-tagged (blockBytes t) (front ++ headerPart (t .header)) (t .«logical_partitions») in-parts m₂ (k .slots) 0 24 (omega (arith, k .long)))
 
   -- so reading a block that was written answers the table
-  pub block-gives : t .count ≤ most → checked (blockChecks (blockBytes t)) (λ _. noTable) (tableIn (blockBytes t)) ≡ t
-  block-gives c = checked-none (blockChecks (blockBytes t)) (λ _. noTable) (tableIn (blockBytes t)) (block-reads c) ∙ table-back
+  pub block-gives : t .count ≤ most → answer (blockChecks (blockBytes t)) (tableIn (blockBytes t)) ≡ gives t
+  block-gives c = checked-none (blockChecks (blockBytes t)) refuses (gives (tableIn (blockBytes t))) (block-reads c) ∙ ap gives table-back

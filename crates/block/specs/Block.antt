@@ -12,14 +12,14 @@ use Rattle.chs.specs.Chs.{chs}
 use Rattle.entry.specs.declared.MBRPartitionEntry.{MBRPartitionEntry}
 use Rattle.ebr.specs.Ebr.{keptOf}
 use Rattle.mbr.specs.declared.MBRHeader.{MBRHeader}
-use Rattle.mbr.specs.Mbr.{codeOf, noHeader}
+use Rattle.mbr.specs.Mbr.{codeOf}
 use Rattle.table.specs.declared.MaybeSectors.{MaybeSectors}
 use Rattle.table.specs.declared.MaybeSectors.the-variants.{Absent, Present}
 use Rattle.table.specs.declared.MaybeChs.{MaybeChs}
 use Rattle.table.specs.declared.MaybeChs.the-variants.{Absent as NoChs, Present as SomeChs}
 use Rattle.table.specs.declared.LogicalPartition.{LogicalPartition}
 use Rattle.table.specs.declared.MBR.{MBR}
-use Rattle.table.specs.Table.{most, defaultAlign, slots}
+use Rattle.table.specs.Table.{most}
 
 -- front 20, header 520, 24 slots of 482
 abbrev pub blockLength : ℕ
@@ -169,18 +169,3 @@ putChecks t room = (6 ! leb (t .count) most) ∷ (101 ! eqb room blockLength) �
 abbrev pub blockChecks : List ℕ → List Check
 blockChecks b =
     (101 ! eqb (length b) blockLength) ∷ (6 ! leb (number little (bytesAt b 12 4)) most) ∷ (102 ! tagged b 0 most) ∷ []
-
--- what stands in the place of a table that is refused
-unfoldable pub noTable : MBR
-noTable =
-    record {
-      «sector_size» = 0;
-      header = noHeader;
-      «logical_partitions» = slots [];
-      count = 0;
-      align = defaultAlign;
-      cylinders = 0;
-      heads = 0;
-      sectors = 0;
-      «disk_size» = 0;
-    }

@@ -13,7 +13,7 @@ use Rattle.base.specs.Checks.{_!_, answer}
 use Rattle.table.specs.declared.LogicalPartition.{LogicalPartition}
 use Rattle.block.specs.Block.{slotPart, slotOf, slotTagged}
 use Rattle.blockwrite.proofs.Parts.{whole}
-use Rattle.push.specs.declared.Geometry.{Geometry}
+use Rattle.address.specs.declared.Geometry.{Geometry}
 use Rattle.push.specs.Address.{updateChs}
 use Rattle.abi.specs.Packed.{status}
 use Rattle.abichs.specs.Slot.{slotSays, slotAfter}

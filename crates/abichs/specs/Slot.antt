@@ -7,7 +7,7 @@ use Rattle.base.specs.Said.{Said, gives, refuses, andThen}
 use Rattle.base.specs.Checks.{Check, _!_, answer}
 use Rattle.table.specs.declared.LogicalPartition.{LogicalPartition}
 use Rattle.block.specs.Block.{slotPart, slotOf, slotTagged}
-use Rattle.push.specs.declared.Geometry.{Geometry}
+use Rattle.address.specs.declared.Geometry.{Geometry}
 use Rattle.push.specs.Address.{updateChs}
 
 -- another length 101, an impossible tag 102

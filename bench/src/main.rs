@@ -19,7 +19,7 @@ use lines::Line;
 
 /// A round lasts so many nanoseconds, and there are so many of them.
 const ROUND: u64 = 300_000;
-const ROUNDS: usize = 61;
+const ROUNDS: usize = 201;
 
 fn main() {
     let mut lines = lines::all();

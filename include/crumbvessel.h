@@ -153,24 +153,24 @@ uint64_t cv_careful_remove(const uint8_t *x, size_t x_length, uint32_t number, u
 
 /* The table that an extract reads as, as a block: 0; 1 to 7 of reading, 101. */
 uint8_t cv_read(const uint8_t *x, size_t x_length, uint8_t *out, size_t out_length);
-/* push on the table of a block, the new table as a second block: the new partition's number; 101, 6, 102, push's, 101. */
-uint64_t cv_push(const uint8_t *block, size_t block_length, uint8_t type, uint32_t start, uint32_t sectors, uint8_t *out,
-                 size_t out_length);
-/* Removal of logical partition `number` from the table of a block, the new table as a second block: 0; 101, 6, 102, 17,
- * 101. The removed partition is slot `number - 5` of the given block. */
-uint8_t cv_remove(const uint8_t *block, size_t block_length, uint32_t number, uint8_t *out, size_t out_length);
+/* push on the table of a block, in place: the new partition's number; 101, 6, 102, push's. Its slot, the first unused one,
+ * and the count are written, and no other byte. */
+uint64_t cv_push(uint8_t *block, size_t block_length, uint8_t type, uint32_t start, uint32_t sectors);
+/* Removal of logical partition `number` from the table of a block, in place: 0; 101, 6, 102, 17. The slots behind slot
+ * `number - 5` move down by one, the last one's bytes stay where they were too, the count falls by one; no other byte is
+ * written. */
+uint8_t cv_remove(uint8_t *block, size_t block_length, uint32_t number);
 
 /* libabiedit.a */
 
-/* Removal of the partition at a sector from the table of a block, the new table as a second block: 0; 101, 6, 102, 7, 15,
- * 101. Its number is what cv_find_at_sector says of the given block. */
-uint8_t cv_remove_at_sector(const uint8_t *block, size_t block_length, uint32_t sector, uint8_t *out, size_t out_length);
+/* Removal of the partition at a sector from the table of a block, in place: 0; 101, 6, 102, 7, 15. Its number is what
+ * cv_find_at_sector says of the given block; a primary's entry becomes zeros. */
+uint8_t cv_remove_at_sector(uint8_t *block, size_t block_length, uint32_t sector);
 /* A new table for the disk of an extract, as a block: 0; 1, 101. The four bytes of the disk signature are the number's,
  * little-endian. */
 uint8_t cv_new_from(const uint8_t *x, size_t x_length, uint32_t disk_signature, uint8_t *out, size_t out_length);
-/* The table of a block with the sector size and D of an extract, as a second block: 0; 101, 6, 102, 1, 101. */
-uint8_t cv_update_from(const uint8_t *block, size_t block_length, const uint8_t *x, size_t x_length, uint8_t *out,
-                       size_t out_length);
+/* Puts the sector size and D of an extract into the table of a block, in place: 0; 101, 6, 102, 1. */
+uint8_t cv_update_from(uint8_t *block, size_t block_length, const uint8_t *x, size_t x_length);
 
 /* libabilook.a */
 
@@ -208,11 +208,11 @@ uint64_t cv_get_maximum_partition_size_for(const uint8_t *block, size_t block_le
 
 /* libabiwrite.a */
 
-/* Writes the table of a block over an extract, the new extract to `out`: its length, at most CV_EXTRACT(64); and the table
- * as writing leaves it to a second block, `after`. 101, 6, 102 of the block; 101 of `after`; 1, 3, 4, 2, 7, 13, 14, 18,
- * 22, 19. */
-uint64_t cv_write_into(const uint8_t *block, size_t block_length, const uint8_t *x, size_t x_length, uint8_t *out,
-                       size_t out_length, uint8_t *after, size_t after_length);
+/* Writes the table of a block over an extract, the new extract to `out`: its length, at most CV_EXTRACT(64); and the block
+ * becomes that of the table as writing leaves it: its slots below the count are written, and no other byte of it. 101, 6,
+ * 102 of the block; 1, 3, 4, 2, 7, 13, 14, 18, 22, 19. */
+uint64_t cv_write_into(uint8_t *block, size_t block_length, const uint8_t *x, size_t x_length, uint8_t *out,
+                       size_t out_length);
 
 /* libabiheader.a */
 

@@ -160,8 +160,8 @@ static void careful_changes(void)
 
 static void tables(void)
 {
-    static uint8_t t[CV_BLOCK], u[CV_BLOCK], v[CV_BLOCK];
-    const uint8_t *slot = u + CV_LOGICAL(1);
+    static uint8_t t[CV_BLOCK], u[CV_BLOCK];
+    const uint8_t *slot = t + CV_LOGICAL(1);
     memset(t, 7, sizeof t);
     IS(cv_read(k, sizeof k - 1, t, sizeof t), CV_BAD_EXTRACT);
     IS(cv_read(k, sizeof k, t, sizeof t - 1), CV_BLOCK_LENGTH);
@@ -181,34 +181,45 @@ static void tables(void)
     IS(cv_find_at_sector(t, sizeof t, 8192), REFUSED(CV_NOTHING));
     IS(cv_find_at_sector(t, sizeof t, 4096), REFUSED(CV_NOTHING));
     IS(cv_find_at_sector(t, sizeof t - 1, 6144), REFUSED(CV_BLOCK_LENGTH));
-    IS(cv_push(t, sizeof t, 0x83, 8192, 4096, u, sizeof u), 6);
-    IS(get32(u + CV_COUNT), 2);
+    memcpy(u, t, sizeof u);
+    IS(cv_push(t, sizeof t, 0x83, 8192, 4096), 6);
+    IS(get32(t + CV_COUNT), 2);
+    IS(memcmp(t, u, CV_COUNT), 0);
+    IS(memcmp(t + CV_COUNT + 4, u + CV_COUNT + 4, CV_LOGICAL(1) - CV_COUNT - 4), 0);
+    IS(memcmp(t + CV_LOGICAL(2), u + CV_LOGICAL(2), CV_BLOCK - CV_LOGICAL(2)), 0);
     IS(slot[CV_ENTRY_TYPE], 0x83);
     IS(get32(slot + CV_ENTRY_START), 10240);
     IS(get32(slot + CV_ENTRY_SECTORS), 2048);
     IS(get32(slot + CV_EBR_LBA), 8192);
     IS(slot[CV_EBR_SECTORS], 1);
     IS(get32(slot + CV_EBR_SECTORS + 1), 4096);
-    IS(cv_remove(u, sizeof u, 5, v, sizeof v), CV_DONE);
-    IS(get32(v + CV_COUNT), 1);
-    IS(get32(v + CV_LOGICAL(0) + CV_ENTRY_START), 10240);
+    memcpy(u, t, sizeof u);
+    IS(cv_remove(t, sizeof t, 5), CV_DONE);
+    IS(get32(t + CV_COUNT), 1);
+    IS(memcmp(t, u, CV_COUNT), 0);
+    IS(memcmp(t + CV_COUNT + 4, u + CV_COUNT + 4, CV_LOGICAL(0) - CV_COUNT - 4), 0);
+    IS(memcmp(t + CV_LOGICAL(0), u + CV_LOGICAL(1), CV_SLOT), 0);
+    IS(memcmp(t + CV_LOGICAL(1), u + CV_LOGICAL(1), CV_BLOCK - CV_LOGICAL(1)), 0);
 }
 
 static void table_refusals(void)
 {
     static uint8_t t[CV_BLOCK], u[CV_BLOCK];
     IS(cv_read(k, sizeof k, t, sizeof t), CV_DONE);
-    memset(u, 7, sizeof u);
-    IS(cv_push(t, sizeof t, 0x83, 8192, 2048, u, sizeof u), REFUSED(CV_TOO_FEW_SECTORS));
-    IS(cv_push(t, sizeof t - 1, 0x83, 8192, 4096, u, sizeof u), REFUSED(CV_BLOCK_LENGTH));
-    IS(cv_push(t, sizeof t, 0x83, 8192, 4096, u, 0), REFUSED(CV_BLOCK_LENGTH));
-    IS(cv_remove(t, sizeof t, 6, u, sizeof u), CV_NO_SUCH_LOGICAL);
-    IS(cv_remove(t, 0, 5, u, sizeof u), CV_BLOCK_LENGTH);
-    t[CV_LOGICAL(23) + CV_EBR_LAST] = 2;
-    IS(cv_remove(t, sizeof t, 5, u, sizeof u), CV_BLOCK_TAG);
-    t[CV_COUNT] = 25;
-    IS(cv_remove(t, sizeof t, 5, u, sizeof u), CV_TOO_MANY);
-    IS(all(u, sizeof u, 7), true);
+    memcpy(u, t, sizeof u);
+    IS(cv_push(t, sizeof t, 0x83, 8192, 2048), REFUSED(CV_TOO_FEW_SECTORS));
+    IS(cv_push(t, sizeof t - 1, 0x83, 8192, 4096), REFUSED(CV_BLOCK_LENGTH));
+    IS(cv_push(t, 0, 0x83, 8192, 4096), REFUSED(CV_BLOCK_LENGTH));
+    IS(cv_remove(t, sizeof t, 6), CV_NO_SUCH_LOGICAL);
+    IS(cv_remove(t, sizeof t, 4), CV_NO_SUCH_LOGICAL);
+    IS(cv_remove(t, 0, 5), CV_BLOCK_LENGTH);
+    t[CV_LOGICAL(23) + CV_EBR_LAST] = u[CV_LOGICAL(23) + CV_EBR_LAST] = 2;
+    IS(cv_push(t, sizeof t, 0x83, 8192, 4096), REFUSED(CV_BLOCK_TAG));
+    IS(cv_remove(t, sizeof t, 5), CV_BLOCK_TAG);
+    t[CV_COUNT] = u[CV_COUNT] = 25;
+    IS(cv_push(t, sizeof t, 0x83, 8192, 4096), REFUSED(CV_TOO_MANY));
+    IS(cv_remove(t, sizeof t, 5), CV_TOO_MANY);
+    IS(memcmp(t, u, sizeof t), 0);
 }
 
 /* K's table, looked at. */
@@ -257,31 +268,36 @@ static void edits(void)
     static uint8_t t[CV_BLOCK], u[CV_BLOCK];
     uint8_t larger[CV_EXTRACT(2)];
     IS(cv_read(k, sizeof k, t, sizeof t), CV_DONE);
-    memset(u, 7, sizeof u);
-    IS(cv_remove_at_sector(t, sizeof t, 8192, u, sizeof u), CV_NOT_FOUND);
-    IS(cv_remove_at_sector(t, sizeof t, 6144, u, sizeof u - 1), CV_BLOCK_LENGTH);
-    IS(cv_remove_at_sector(t, sizeof t - 1, 6144, u, sizeof u), CV_BLOCK_LENGTH);
-    IS(cv_new_from(k, sizeof k - 1, 1, u, sizeof u), CV_BAD_EXTRACT);
-    IS(cv_new_from(k, sizeof k, 1, u, sizeof u - 1), CV_BLOCK_LENGTH);
-    IS(cv_update_from(t, sizeof t, k, sizeof k - 1, u, sizeof u), CV_BAD_EXTRACT);
-    IS(cv_update_from(t, sizeof t - 1, k, 0, u, sizeof u), CV_BLOCK_LENGTH);
-    IS(all(u, sizeof u, 7), true);
-    IS(cv_remove_at_sector(t, sizeof t, 6144, u, sizeof u), CV_DONE);
-    IS(get32(u + CV_COUNT), 0);
-    IS(u[CV_PRIMARY(0) + CV_ENTRY_TYPE], 0x05);
+    memcpy(u, t, sizeof u);
+    IS(cv_remove_at_sector(t, sizeof t, 8192), CV_NOT_FOUND);
+    IS(cv_remove_at_sector(t, sizeof t - 1, 6144), CV_BLOCK_LENGTH);
+    IS(cv_update_from(t, sizeof t, k, sizeof k - 1), CV_BAD_EXTRACT);
+    IS(cv_update_from(t, sizeof t - 1, k, 0), CV_BLOCK_LENGTH);
+    IS(memcmp(t, u, sizeof t), 0);
+    IS(cv_remove_at_sector(t, sizeof t, 6144), CV_DONE);
+    IS(get32(t + CV_COUNT), 0);
+    IS(memcmp(t, u, CV_COUNT), 0);
+    IS(memcmp(t + CV_COUNT + 4, u + CV_COUNT + 4, CV_BLOCK - CV_COUNT - 4), 0);
+    memcpy(t, u, sizeof t);
     memcpy(larger, k, sizeof k);
     put32(larger, 4096);
     put32(larger + 4, 40960);
-    IS(cv_update_from(t, sizeof t, larger, sizeof larger, u, sizeof u), CV_DONE);
-    IS(get32(u + CV_SECTOR_SIZE), 4096);
-    IS(get32(u + CV_DISK_SIZE), 40960);
+    IS(cv_update_from(t, sizeof t, larger, sizeof larger), CV_DONE);
+    IS(get32(t + CV_SECTOR_SIZE), 4096);
+    IS(get32(t + CV_DISK_SIZE), 40960);
     IS(memcmp(u + CV_ALIGN, t + CV_ALIGN, CV_BLOCK - CV_ALIGN), 0);
     t[CV_PRIMARY(0) + CV_ENTRY_TYPE] = 0x83;
-    IS(cv_remove_at_sector(t, sizeof t, 20479, u, sizeof u), CV_DONE);
-    IS(all(u + CV_PRIMARY(0), CV_ENTRY, 0), true);
-    IS(get32(u + CV_COUNT), 1);
     put32(t + CV_PRIMARY(0) + CV_ENTRY_SECTORS, 0xFFFFFFFF);
-    IS(cv_remove_at_sector(t, sizeof t, 6144, u, sizeof u), CV_ARITHMETIC);
+    IS(cv_remove_at_sector(t, sizeof t, 6144), CV_ARITHMETIC);
+    put32(t + CV_PRIMARY(0) + CV_ENTRY_SECTORS, 16384);
+    IS(cv_remove_at_sector(t, sizeof t, 20479), CV_DONE);
+    IS(all(t + CV_PRIMARY(0), CV_ENTRY, 0), true);
+    IS(memcmp(t + CV_PRIMARY(1), u + CV_PRIMARY(1), CV_BLOCK - CV_PRIMARY(1)), 0);
+    IS(get32(t + CV_COUNT), 1);
+    memset(u, 7, sizeof u);
+    IS(cv_new_from(k, sizeof k - 1, 1, u, sizeof u), CV_BAD_EXTRACT);
+    IS(cv_new_from(k, sizeof k, 1, u, sizeof u - 1), CV_BLOCK_LENGTH);
+    IS(all(u, sizeof u, 7), true);
     IS(cv_new_from(k, sizeof k, 0x04030201, u, sizeof u), CV_DONE);
     IS(memcmp(u + CV_DISK_SIGNATURE, "\x01\x02\x03\x04", 4), 0);
     IS(get32(u + CV_DISK_SIZE), 20480);
@@ -405,31 +421,34 @@ static void writing(void)
 {
     static const char text[] =
         "disk 20480 align 2048 logical 2\n1 05 00 4096 16384\n5 83 00 6144 2048\n6 83 00 10240 2048\n";
-    static uint8_t t[CV_BLOCK], u[CV_BLOCK], v[CV_BLOCK];
+    static uint8_t u[CV_BLOCK], v[CV_BLOCK];
     uint8_t out[CV_EXTRACT(3)], list[CV_LISTING];
-    IS(cv_read(k, sizeof k, t, sizeof t), CV_DONE);
-    IS(cv_push(t, sizeof t, 0x83, 8192, 4096, u, sizeof u), 6);
+    IS(cv_read(k, sizeof k, u, sizeof u), CV_DONE);
+    IS(cv_push(u, sizeof u, 0x83, 8192, 4096), 6);
     memset(out, 7, sizeof out);
-    memset(v, 7, sizeof v);
-    IS(cv_write_into(u, sizeof u, k, sizeof k, out, sizeof out - 1, v, sizeof v), REFUSED(CV_OUTPUT_SHORT));
-    IS(cv_write_into(u, sizeof u, k, sizeof k - 1, out, sizeof out, v, sizeof v), REFUSED(CV_BAD_EXTRACT));
-    IS(cv_write_into(u, sizeof u, k, sizeof k - 1, out, sizeof out, v, sizeof v - 1), REFUSED(CV_BLOCK_LENGTH));
-    IS(cv_write_into(u, sizeof u - 1, k, sizeof k, out, sizeof out, v, sizeof v), REFUSED(CV_BLOCK_LENGTH));
+    memcpy(v, u, sizeof v);
+    IS(cv_write_into(u, sizeof u, k, sizeof k, out, sizeof out - 1), REFUSED(CV_OUTPUT_SHORT));
+    IS(cv_write_into(u, sizeof u, k, sizeof k - 1, out, sizeof out), REFUSED(CV_BAD_EXTRACT));
+    IS(cv_write_into(u, sizeof u - 1, k, sizeof k - 1, out, sizeof out), REFUSED(CV_BLOCK_LENGTH));
     u[CV_BOOT_SIGNATURE]++;
-    IS(cv_write_into(u, sizeof u, k, sizeof k, out, sizeof out, v, sizeof v), REFUSED(CV_SIGNATURE));
+    IS(cv_write_into(u, sizeof u, k, sizeof k, out, sizeof out), REFUSED(CV_SIGNATURE));
     u[CV_BOOT_SIGNATURE]--;
     IS(all(out, sizeof out, 7), true);
-    IS(all(v, sizeof v, 7), true);
-    IS(cv_write_into(u, sizeof u, k, sizeof k, out, sizeof out, v, sizeof v), sizeof out);
+    IS(memcmp(u, v, sizeof v), 0);
+    IS(cv_write_into(u, sizeof u, k, sizeof k, out, sizeof out), sizeof out);
     IS(cv_listing(out, sizeof out, list, sizeof list), sizeof text - 1);
     IS(memcmp(list, text, sizeof text - 1), 0);
     IS(memcmp(u, v, sizeof v), 0);
     /* the first logical partition's EBR is put at X, without link sectors */
-    IS(cv_remove(u, sizeof u, 5, t, sizeof t), CV_DONE);
-    IS(t[CV_LOGICAL(0) + CV_EBR_SECTORS], 1);
-    IS(cv_write_into(t, sizeof t, k, sizeof k, out, sizeof out, v, sizeof v), CV_EXTRACT(2));
-    IS(get32(v + CV_LOGICAL(0) + CV_EBR_LBA), 4096);
-    IS(v[CV_LOGICAL(0) + CV_EBR_SECTORS], 0);
+    IS(cv_remove(u, sizeof u, 5), CV_DONE);
+    IS(u[CV_LOGICAL(0) + CV_EBR_SECTORS], 1);
+    memcpy(v, u, sizeof v);
+    IS(cv_write_into(u, sizeof u, k, sizeof k, out, sizeof out), CV_EXTRACT(2));
+    IS(get32(u + CV_LOGICAL(0) + CV_EBR_LBA), 4096);
+    IS(all(u + CV_LOGICAL(0) + CV_EBR_SECTORS, 5, 0), true);
+    IS(all(u + CV_LOGICAL(0) + CV_EBR_LAST, 5, 0), true);
+    IS(memcmp(u, v, CV_LOGICAL(0) + CV_EBR_LBA), 0);
+    IS(memcmp(u + CV_LOGICAL(0) + CV_EBR_CODE, v + CV_LOGICAL(0) + CV_EBR_CODE, CV_BLOCK - CV_LOGICAL(0) - CV_EBR_CODE), 0);
 }
 
 int main(void)

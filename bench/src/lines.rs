@@ -9,6 +9,10 @@ const ALIGN: u32 = 2048;
 /// The extended partition's start.
 const X: u32 = 2 * ALIGN;
 const GEOMETRY: (u16, u8, u8) = (1023, 255, 63);
+/// In a block: the count, the first slot, a slot's bytes.
+const COUNT: usize = 12;
+const LOGICAL: usize = 540;
+const SLOT: usize = 482;
 
 pub struct Line {
     pub operation: &'static str,
@@ -145,7 +149,6 @@ fn find(n: u32, sound: bool) -> Line {
 }
 
 /// Damaged: a partition that lies in another.
-#[cfg(feature = "free")]
 fn free(n: u32, sound: bool) -> Line {
     let mut t = table(n);
     if !sound {
@@ -164,17 +167,20 @@ fn free(n: u32, sound: bool) -> Line {
     }
 }
 
-/// Damaged: beyond the extended partition's end. mbrman's table is as before afterwards: that is part of its call.
+/// Damaged: beyond the extended partition's end. Both tables are as before afterwards: that is part of the call.
 fn push(n: u32, sound: bool) -> Line {
     let n = n.min(23);
     let mut t = table(n);
-    let b = block(&t);
+    let mut b = block(&t);
     let start = if sound { behind(n) } else { behind(n + 3) };
-    let mut out = vec![0; BLOCK];
     Line {
         operation: "push",
         input: input(n, sound),
-        ours: Box::new(move || ours::push(&b, 0x83, start, 2 * ALIGN, &mut out)),
+        ours: Box::new(move || {
+            let answer = ours::push(&mut b, 0x83, start, 2 * ALIGN);
+            b[COUNT..COUNT + 4].copy_from_slice(&n.to_le_bytes());
+            answer
+        }),
         theirs: Box::new(move || {
             let said = t.push(0x83, start, 2 * ALIGN).map(|_| ());
             let answer = said.as_ref().map_or_else(number, |_| u64::from(n) + 5);
@@ -186,15 +192,22 @@ fn push(n: u32, sound: bool) -> Line {
     }
 }
 
-/// The first one is removed; mbrman's table gets it back, and that is part of its call.
+/// The first one is removed; both tables get it back in front of the others, and that is part of the call.
 fn remove(n: u32) -> Line {
     let mut t = table(n);
-    let b = block(&t);
-    let mut out = vec![0; BLOCK];
+    let mut b = block(&t);
+    let first = b[LOGICAL..LOGICAL + SLOT].to_vec();
+    let last = LOGICAL + SLOT * (n as usize - 1);
     Line {
         operation: "remove",
         input: input(n, true),
-        ours: Box::new(move || ours::remove(&b, 5, &mut out)),
+        ours: Box::new(move || {
+            let answer = ours::remove(&mut b, 5);
+            b.copy_within(LOGICAL..last, LOGICAL + SLOT);
+            b[LOGICAL..LOGICAL + SLOT].copy_from_slice(&first);
+            b[COUNT..COUNT + 4].copy_from_slice(&n.to_le_bytes());
+            answer
+        }),
         theirs: Box::new(move || {
             let l = t.remove(5);
             t.logical_partitions.insert(0, l);
@@ -211,16 +224,15 @@ fn write(n: u32, sound: bool) -> Line {
     if !sound {
         let last = t.logical_partitions.last_mut().map_or(&mut t.header.partition_2, |l| &mut l.partition);
         last.boot = 0x7f;
-        b[if n == 0 { 466 + 18 } else { 540 + 482 * (n as usize - 1) }] = 0x7f;
+        b[if n == 0 { 466 + 18 } else { LOGICAL + SLOT * (n as usize - 1) }] = 0x7f;
     }
     let mut disk = disk_of(&x);
     let mut out = vec![0; x.len()];
-    let mut after = vec![0; BLOCK];
     let length = x.len() as u64;
     Line {
         operation: "write",
         input: input(n, sound),
-        ours: Box::new(move || ours::write(&b, &x, &mut out, &mut after)),
+        ours: Box::new(move || ours::write(&mut b, &x, &mut out)),
         theirs: Box::new(move || t.write_into(&mut disk).as_ref().map_or_else(number, |_| length)),
     }
 }
@@ -263,7 +275,6 @@ pub fn all() -> Vec<Line> {
     both(&mut lines, read);
     lines.extend([0, 8, 24].map(read_high));
     both(&mut lines, find);
-    #[cfg(feature = "free")]
     both(&mut lines, free);
     both(&mut lines, push);
     lines.extend([remove(8), remove(24)]);

@@ -5,6 +5,8 @@
 //!     bench stack     bytes of stack that a call uses
 //!     bench copies    large copies in one call (built with the feature `copies`)
 
+#[path = "../../rust/src/c.rs"]
+mod c;
 #[cfg(feature = "copies")]
 mod copies;
 mod disk;

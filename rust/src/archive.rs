@@ -1,6 +1,7 @@
 //! The functions of include/crumbvessel.h, each safe: slices for addresses and lengths, `Result` for answers. All unsafe
 //! code of this crate is here. Every lent output is of the length that its function asks for.
 
+use crate::c;
 use crate::chs::CHS;
 use crate::error::{Error, Result};
 
@@ -16,67 +17,6 @@ const EXTRACT: usize = 24 + 64 * STORE;
 const NOTHING: u64 = 255;
 
 pub type Block = [u8; BLOCK];
-
-mod c {
-    extern "C" {
-        pub fn cv_chs_from_lba_exact(lba: u32, cylinders: u16, heads: u8, sectors: u8) -> u64;
-        pub fn cv_chs_from_lba_aligned(lba: u32, cylinders: u16, heads: u8, sectors: u8) -> u64;
-        pub fn cv_chs_to_lba(cylinder: u16, head: u8, sector: u8, heads: u8, sectors: u8) -> u64;
-        pub fn cv_chs_is_valid(c: u16, h: u8, s: u8, cylinders: u16, heads: u8, sectors: u8) -> bool;
-        pub fn cv_chs_to_bytes(cylinder: u16, head: u8, sector: u8) -> u32;
-        pub fn cv_chs_from_bytes(a: u8, b: u8, c: u8) -> u64;
-        pub fn cv_is_extended(sys: u8) -> bool;
-        pub fn cv_extract_check(x: *const u8, n: usize) -> u8;
-        pub fn cv_look_up(x: *const u8, n: usize, lba: u32) -> u64;
-        pub fn cv_look_up_answer(x: *const u8, n: usize, lba: u32) -> u8;
-        pub fn cv_wanted(x: *const u8, n: usize) -> u64;
-        pub fn cv_lay_over(x: *const u8, n: usize, lba: u32, r: *const u8, m: usize, out: *mut u8, room: usize) -> u64;
-        pub fn cv_listing(x: *const u8, n: usize, out: *mut u8, room: usize) -> u64;
-        pub fn cv_careful_push(
-            x: *const u8,
-            n: usize,
-            align: u32,
-            cylinders: u16,
-            heads: u8,
-            track: u8,
-            sys: u8,
-            start: u32,
-            sectors: u32,
-            out: *mut u8,
-            room: usize,
-        ) -> u64;
-        pub fn cv_careful_remove(x: *const u8, n: usize, number: u32, out: *mut u8, room: usize) -> u64;
-        pub fn cv_read(x: *const u8, n: usize, out: *mut u8, room: usize) -> u8;
-        pub fn cv_push(b: *const u8, n: usize, sys: u8, start: u32, sectors: u32, out: *mut u8, room: usize) -> u64;
-        pub fn cv_remove(b: *const u8, n: usize, number: u32, out: *mut u8, room: usize) -> u8;
-        pub fn cv_check_geometry(b: *const u8, n: usize) -> u64;
-        pub fn cv_get_cylinder_size(b: *const u8, n: usize) -> u64;
-        pub fn cv_is_sound(b: *const u8, n: usize) -> u64;
-        pub fn cv_find_at_sector(b: *const u8, n: usize, sector: u32) -> u64;
-        pub fn cv_remove_at_sector(b: *const u8, n: usize, sector: u32, out: *mut u8, room: usize) -> u8;
-        pub fn cv_new_from(x: *const u8, n: usize, disk_signature: u32, out: *mut u8, room: usize) -> u8;
-        pub fn cv_update_from(b: *const u8, n: usize, x: *const u8, m: usize, out: *mut u8, room: usize) -> u8;
-        pub fn cv_find_free_sectors(b: *const u8, n: usize, out: *mut u8, room: usize) -> u64;
-        pub fn cv_find_first_place(b: *const u8, n: usize, size: u32) -> u64;
-        pub fn cv_find_last_place(b: *const u8, n: usize, size: u32) -> u64;
-        pub fn cv_find_optimal_place(b: *const u8, n: usize, size: u32) -> u64;
-        pub fn cv_get_maximum_partition_size(b: *const u8, n: usize) -> u64;
-        pub fn cv_get_maximum_partition_size_for(b: *const u8, n: usize, number: u32) -> u64;
-        pub fn cv_write_into(
-            b: *const u8,
-            n: usize,
-            x: *const u8,
-            m: usize,
-            out: *mut u8,
-            room: usize,
-            after: *mut u8,
-            after_room: usize,
-        ) -> u64;
-        pub fn cv_read_header(x: *const u8, n: usize, out: *mut u8, room: usize) -> u8;
-        pub fn cv_write_header(h: *const u8, n: usize, x: *const u8, m: usize, out: *mut u8, room: usize) -> u64;
-        pub fn cv_update_chs(slot: *mut u8, n: usize, cylinders: u16, heads: u8, sectors: u8) -> u8;
-    }
-}
 
 /// What an 8-bit answer says.
 fn status(number: u8) -> Result<()> {
@@ -199,20 +139,17 @@ pub fn read(x: &[u8]) -> Result<Block> {
     filled(fill).map(|((), out)| out)
 }
 
-/// The new partition's number and the new table.
-pub fn push(b: &Block, sys: u8, start: u32, sectors: u32) -> Result<(u32, Block)> {
-    filled(|out| value(unsafe { c::cv_push(b.as_ptr(), BLOCK, sys, start, sectors, out.as_mut_ptr(), BLOCK) }))
+/// The new partition's number.
+pub fn push(b: &mut Block, sys: u8, start: u32, sectors: u32) -> Result<u32> {
+    value(unsafe { c::cv_push(b.as_mut_ptr(), BLOCK, sys, start, sectors) })
 }
 
-pub fn remove(b: &Block, number: u32) -> Result<Block> {
-    let fill = |out: &mut Block| status(unsafe { c::cv_remove(b.as_ptr(), BLOCK, number, out.as_mut_ptr(), BLOCK) });
-    filled(fill).map(|((), out)| out)
+pub fn remove(b: &mut Block, number: u32) -> Result<()> {
+    status(unsafe { c::cv_remove(b.as_mut_ptr(), BLOCK, number) })
 }
 
-pub fn remove_at_sector(b: &Block, sector: u32) -> Result<Block> {
-    let fill =
-        |out: &mut Block| status(unsafe { c::cv_remove_at_sector(b.as_ptr(), BLOCK, sector, out.as_mut_ptr(), BLOCK) });
-    filled(fill).map(|((), out)| out)
+pub fn remove_at_sector(b: &mut Block, sector: u32) -> Result<()> {
+    status(unsafe { c::cv_remove_at_sector(b.as_mut_ptr(), BLOCK, sector) })
 }
 
 pub fn new_from(x: &[u8], disk_signature: [u8; 4]) -> Result<Block> {
@@ -222,11 +159,8 @@ pub fn new_from(x: &[u8], disk_signature: [u8; 4]) -> Result<Block> {
     filled(fill).map(|((), out)| out)
 }
 
-pub fn update_from(b: &Block, x: &[u8]) -> Result<Block> {
-    let fill = |out: &mut Block| {
-        status(unsafe { c::cv_update_from(b.as_ptr(), BLOCK, x.as_ptr(), x.len(), out.as_mut_ptr(), BLOCK) })
-    };
-    filled(fill).map(|((), out)| out)
+pub fn update_from(b: &mut Block, x: &[u8]) -> Result<()> {
+    status(unsafe { c::cv_update_from(b.as_mut_ptr(), BLOCK, x.as_ptr(), x.len()) })
 }
 
 pub fn check_geometry(b: &Block) -> Result<bool> {
@@ -272,14 +206,11 @@ pub fn get_maximum_partition_size_for(b: &Block, number: u32) -> Result<u32> {
     value(unsafe { c::cv_get_maximum_partition_size_for(b.as_ptr(), BLOCK, number) })
 }
 
-/// The new extract, and the table as writing leaves it.
-pub fn write_into(b: &Block, x: &[u8]) -> Result<(Vec<u8>, Block)> {
-    let mut after = [0; BLOCK];
-    let new = filled_to(EXTRACT, |out| unsafe {
-        let (room, out) = (out.len(), out.as_mut_ptr());
-        c::cv_write_into(b.as_ptr(), BLOCK, x.as_ptr(), x.len(), out, room, after.as_mut_ptr(), BLOCK)
-    })?;
-    Ok((new, after))
+/// The new extract; the table becomes what writing leaves.
+pub fn write_into(b: &mut Block, x: &[u8]) -> Result<Vec<u8>> {
+    filled_to(EXTRACT, |out| unsafe {
+        c::cv_write_into(b.as_mut_ptr(), BLOCK, x.as_ptr(), x.len(), out.as_mut_ptr(), out.len())
+    })
 }
 
 pub fn read_header(x: &[u8]) -> Result<[u8; HEADER]> {

@@ -28,6 +28,7 @@
 
 mod archive;
 mod block;
+mod c;
 mod careful;
 mod chs;
 mod disk;

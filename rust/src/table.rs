@@ -3,6 +3,7 @@ use std::ops::{Index, IndexMut};
 
 use crate::error::{expected, Result};
 use crate::extract::{front, Extract};
+use crate::archive::Block;
 use crate::{archive, block, disk, LogicalPartition, MBRHeader, MBRPartitionEntry};
 
 /// A table: its header, its logical partitions, and what is known of the disk.
@@ -68,8 +69,7 @@ impl MBR {
         S: Seek + ?Sized,
     {
         let x = front(self.sector_size, disk::sectors(seeker, self.sector_size)?);
-        *self = block::to_table(&archive::update_from(&block::of_table(self), &x)?);
-        Ok(())
+        self.changed(|b| archive::update_from(b, &x))
     }
 
     /// Writes the table: the header and every EBR, each flushed. With a complete geometry the logical partitions'
@@ -84,9 +84,10 @@ impl MBR {
         W: Write + Seek + ?Sized,
     {
         let x = front(self.sector_size, self.disk_size);
-        let (new, after) = archive::write_into(&block::of_table(self), &x)?;
+        let mut b = block::of_table(self);
+        let new = archive::write_into(&mut b, &x)?;
         Extract::made(new).write_into(writer)?;
-        *self = block::to_table(&after);
+        *self = block::to_table(&b);
         Ok(())
     }
 }
@@ -162,8 +163,7 @@ impl MBR {
     /// # Errors
     /// 8, 7, 9, 10, 11, 12, 13, 14, 6.
     pub fn push(&mut self, sys: u8, starting_lba: u32, sectors: u32) -> Result<&mut LogicalPartition> {
-        let (number, new) = archive::push(&block::of_table(self), sys, starting_lba, sectors)?;
-        *self = block::to_table(&new);
+        let number = self.changed(|b| archive::push(b, sys, starting_lba, sectors))?;
         Ok(&mut self.logical_partitions[number as usize - 5])
     }
 
@@ -180,9 +180,10 @@ impl MBR {
     /// # Errors
     /// 6, 17.
     pub fn try_remove(&mut self, index: usize) -> Result<LogicalPartition> {
-        let new = archive::remove(&block::of_table(self), number(index))?;
+        let mut b = block::of_table(self);
+        archive::remove(&mut b, number(index))?;
         let removed = self.logical_partitions.swap_remove(index - 5);
-        *self = block::to_table(&new);
+        *self = block::to_table(&b);
         Ok(removed)
     }
 
@@ -191,8 +192,15 @@ impl MBR {
     /// # Errors
     /// 6, 7, 15.
     pub fn remove_at_sector(&mut self, sector: u32) -> Result<()> {
-        *self = block::to_table(&archive::remove_at_sector(&block::of_table(self), sector)?);
-        Ok(())
+        self.changed(|b| archive::remove_at_sector(b, sector))
+    }
+
+    /// A change of the table as a block.
+    fn changed<T>(&mut self, change: impl FnOnce(&mut Block) -> Result<T>) -> Result<T> {
+        let mut b = block::of_table(self);
+        let answer = change(&mut b)?;
+        *self = block::to_table(&b);
+        Ok(answer)
     }
 }
 

@@ -1,109 +1,12 @@
 //! The proved library in this process: the archives that `rt staticlib` writes, answering case lines. None: there is no
-//! such function in the archives that were linked.
+//! function for C that answers such a line.
 
 use mbrman::MBR;
 
 use crate::block::{self, BLOCK};
+use crate::c::*;
 use crate::given::Given;
 use crate::text::{self, Words};
-
-#[link(name = "abi", kind = "static")]
-extern "C" {
-    fn cv_chs_from_lba_exact(lba: u32, cylinders: u16, heads: u8, sectors: u8) -> u64;
-    fn cv_chs_from_lba_aligned(lba: u32, cylinders: u16, heads: u8, sectors: u8) -> u64;
-    fn cv_chs_to_lba(cylinder: u16, head: u8, sector: u8, heads: u8, sectors: u8) -> u64;
-    fn cv_chs_is_valid(cylinder: u16, head: u8, sector: u8, cylinders: u16, heads: u8, sectors: u8) -> bool;
-    fn cv_extract_check(x: *const u8, n: usize) -> u8;
-    fn cv_look_up_answer(x: *const u8, n: usize, lba: u32) -> u8;
-    fn cv_wanted(x: *const u8, n: usize) -> u64;
-    fn cv_lay_over(x: *const u8, n: usize, lba: u32, r: *const u8, m: usize, out: *mut u8, room: usize) -> u64;
-    fn cv_listing(x: *const u8, n: usize, out: *mut u8, room: usize) -> u64;
-}
-
-#[cfg(feature = "bytes")]
-extern "C" {
-    fn cv_look_up(x: *const u8, n: usize, lba: u32) -> u64;
-    fn cv_chs_to_bytes(cylinder: u16, head: u8, sector: u8) -> u32;
-    fn cv_chs_from_bytes(a: u8, b: u8, c: u8) -> u64;
-    fn cv_is_extended(sys: u8) -> bool;
-}
-
-#[link(name = "abitable", kind = "static")]
-extern "C" {
-    fn cv_read(x: *const u8, n: usize, out: *mut u8, room: usize) -> u8;
-    fn cv_push(b: *const u8, n: usize, sys: u8, start: u32, sectors: u32, out: *mut u8, room: usize) -> u64;
-    fn cv_remove(b: *const u8, n: usize, number: u32, out: *mut u8, room: usize) -> u8;
-}
-
-#[link(name = "abilook", kind = "static")]
-extern "C" {
-    fn cv_find_at_sector(b: *const u8, n: usize, sector: u32) -> u64;
-}
-
-#[cfg(feature = "look")]
-extern "C" {
-    fn cv_len(b: *const u8, n: usize) -> u64;
-    fn cv_get(b: *const u8, n: usize, number: u32, out: *mut u8, room: usize) -> u8;
-    fn cv_check_geometry(b: *const u8, n: usize) -> u64;
-    fn cv_get_cylinder_size(b: *const u8, n: usize) -> u64;
-}
-
-#[cfg(feature = "sound")]
-#[link(name = "abisound", kind = "static")]
-extern "C" {
-    fn cv_is_sound(b: *const u8, n: usize) -> u64;
-}
-
-#[cfg(feature = "edit")]
-#[link(name = "abiedit", kind = "static")]
-extern "C" {
-    fn cv_remove_at_sector(b: *const u8, n: usize, sector: u32, out: *mut u8, room: usize) -> u8;
-    fn cv_new_from(x: *const u8, n: usize, signature: u32, out: *mut u8, room: usize) -> u8;
-    fn cv_update_from(b: *const u8, n: usize, x: *const u8, m: usize, out: *mut u8, room: usize) -> u8;
-}
-
-#[cfg(feature = "free")]
-#[link(name = "abifree", kind = "static")]
-extern "C" {
-    fn cv_find_free_sectors(b: *const u8, n: usize, out: *mut u8, room: usize) -> u64;
-    fn cv_find_first_place(b: *const u8, n: usize, size: u32) -> u64;
-    fn cv_find_last_place(b: *const u8, n: usize, size: u32) -> u64;
-    fn cv_find_optimal_place(b: *const u8, n: usize, size: u32) -> u64;
-    fn cv_get_maximum_partition_size(b: *const u8, n: usize) -> u64;
-    fn cv_get_maximum_partition_size_for(b: *const u8, n: usize, number: u32) -> u64;
-}
-
-#[link(name = "abiwrite", kind = "static")]
-extern "C" {
-    #[cfg(not(feature = "after"))]
-    fn cv_write_into(b: *const u8, n: usize, x: *const u8, m: usize, out: *mut u8, room: usize) -> u64;
-    #[cfg(feature = "after")]
-    fn cv_write_into(
-        b: *const u8, n: usize, x: *const u8, m: usize, out: *mut u8, room: usize, after: *mut u8, length: usize,
-    ) -> u64;
-}
-
-#[cfg(feature = "header")]
-#[link(name = "abiheader", kind = "static")]
-extern "C" {
-    fn cv_read_header(x: *const u8, n: usize, out: *mut u8, room: usize) -> u8;
-    fn cv_write_header(h: *const u8, n: usize, x: *const u8, m: usize, out: *mut u8, room: usize) -> u64;
-}
-
-#[cfg(feature = "chs")]
-#[link(name = "abichs", kind = "static")]
-extern "C" {
-    fn cv_update_chs(slot: *mut u8, n: usize, cylinders: u16, heads: u8, sectors: u8) -> u8;
-}
-
-#[link(name = "abicareful", kind = "static")]
-extern "C" {
-    fn cv_careful_push(
-        x: *const u8, n: usize, align: u32, cylinders: u16, heads: u8, track: u8, sys: u8, start: u32, sectors: u32,
-        out: *mut u8, room: usize,
-    ) -> u64;
-    fn cv_careful_remove(x: *const u8, n: usize, number: u32, out: *mut u8, room: usize) -> u64;
-}
 
 type Said = Option<String>;
 
@@ -128,14 +31,26 @@ fn address(answer: u64) -> Said {
 }
 
 /// A call that writes a table to a lent block, which must stay as it was if the call refuses.
-fn block_of(given: Option<&[u8]>, call: impl FnOnce(*mut u8, usize) -> u64) -> Result<(u32, MBR), u64> {
+fn block_of(call: impl FnOnce(*mut u8, usize) -> u64) -> Result<MBR, u64> {
     let mut out = vec![FILL; BLOCK];
     let answer = call(out.as_mut_ptr(), BLOCK);
     if answer >> 32 != 0 {
         assert!(out.iter().all(|&b| b == FILL), "a refusal has written to a block");
         return Err(answer >> 32);
     }
-    Ok((answer as u32, block::table(&out, given)))
+    Ok(block::table(&out, None))
+}
+
+/// A call that changes the table of a block in place: its value and the table afterwards. A refusal leaves the block as
+/// it was.
+fn changed(b: &[u8], call: impl FnOnce(*mut u8, usize) -> u64) -> Result<(u32, MBR), u64> {
+    let mut after = b.to_vec();
+    let answer = call(after.as_mut_ptr(), after.len());
+    if answer >> 32 != 0 {
+        assert!(after == b, "a refusal has changed a block");
+        return Err(answer >> 32);
+    }
+    Ok((answer as u32, block::table(&after, Some(b))))
 }
 
 #[derive(Default)]
@@ -215,7 +130,6 @@ impl Archive {
         self.lent(answer)
     }
 
-    #[cfg(feature = "bytes")]
     fn look_up(&self, lba: u32) -> Said {
         let x = &self.given.x;
         let (at, says) = unsafe { (cv_look_up(x.as_ptr(), x.len(), lba), cv_look_up_answer(x.as_ptr(), x.len(), lba)) };
@@ -223,12 +137,6 @@ impl Archive {
         Some(format!("{} {} {says}", record.len(), text::checksum(record)))
     }
 
-    #[cfg(not(feature = "bytes"))]
-    fn look_up(&self, _: u32) -> Said {
-        None
-    }
-
-    #[cfg(feature = "header")]
     fn read_header(&self) -> Said {
         let x = &self.given.x;
         let mut out = vec![FILL; block::HEADER_LENGTH];
@@ -237,22 +145,11 @@ impl Archive {
         Some(if k == 0 { text::header(&block::header(&out)) } else { format!("refused {k}") })
     }
 
-    #[cfg(not(feature = "header"))]
-    fn read_header(&self) -> Said {
-        None
-    }
-
-    #[cfg(feature = "edit")]
     fn new_from(&self, mut w: Words) -> Said {
         let x = &self.given.x;
         let signature = u32::from_le_bytes([w.u8(), w.u8(), w.u8(), w.u8()]);
-        let made = block_of(None, |out, n| u64::from(unsafe { cv_new_from(x.as_ptr(), x.len(), signature, out, n) }) << 32);
-        Some(made.map_or_else(|k| format!("refused {k}"), |(_, t)| text::table(&t)))
-    }
-
-    #[cfg(not(feature = "edit"))]
-    fn new_from(&self, _: Words) -> Said {
-        None
+        let made = block_of(|out, n| u64::from(unsafe { cv_new_from(x.as_ptr(), x.len(), signature, out, n) }) << 32);
+        Some(made.map_or_else(|k| format!("refused {k}"), |t| text::table(&t)))
     }
 
     /// The commands whose line starts with alignment, geometry, count and D: the table is read from X.
@@ -277,7 +174,7 @@ impl Archive {
             "update_lent" => self.on_table("update_chs", &t, w, &second),
             "write_table" => {
                 let t = crate::crate_side::edited(t, w);
-                let (answer, after) = self.write(&t, &second)?;
+                let (answer, after) = self.write(&t, &second);
                 Some(format!("{} {}", self.lent(answer)?, text::table(&after)))
             }
             "write_header" => self.write_header(&crate::crate_side::edited(t, w), &second),
@@ -295,19 +192,18 @@ impl Archive {
                 "remove" => self.remove(t, &b, w.word().parse().ok()?),
                 "push" => {
                     let (sys, start, sectors) = (w.u8(), w.u32(), w.u32());
-                    Some(match block_of(Some(&b), |out, m| cv_push(p, n, sys, start, sectors, out, m)) {
+                    Some(match changed(&b, |p, n| cv_push(p, n, sys, start, sectors)) {
                         Ok((number, after)) => format!("{number} {}", text::table(&after)),
                         Err(k) => format!("refused {k} {}", text::table(t)),
                     })
                 }
                 "write" => {
-                    let (answer, after) = self.write(t, x)?;
+                    let (answer, after) = self.write(t, x);
                     let shown = packed(answer, |length| format!("done {length}"));
                     let o = &self.given.o;
                     Some(format!("{shown} {} {} {}", text::table(&after), o.len(), text::checksum(o)))
                 }
                 "write_header" => self.write_header(t, x),
-                #[cfg(feature = "sound")]
                 "sound" => Some(packed(cv_is_sound(p, n), |n| text::truth(n == 1))),
                 _ => places(word, &b, &mut w).or_else(|| looks(word, t, &b, &mut w)).or_else(|| edits(word, t, &b, w, x)),
             }
@@ -315,7 +211,7 @@ impl Archive {
     }
 
     fn remove(&mut self, t: &MBR, b: &[u8], number: u32) -> Said {
-        let done = block_of(Some(b), |out, m| u64::from(unsafe { cv_remove(b.as_ptr(), b.len(), number, out, m) }) << 32);
+        let done = changed(b, |p, n| u64::from(unsafe { cv_remove(p, n, number) }) << 32);
         Some(match done {
             Ok((_, after)) => {
                 let removed = block::logical(&b[block::slot(number as usize - 5)..]);
@@ -325,39 +221,21 @@ impl Archive {
         })
     }
 
-    /// The answer, and the table afterwards; without the feature `after` it is not answered: nothing.
-    #[cfg(feature = "after")]
-    fn write(&mut self, t: &MBR, x: &[u8]) -> Option<(u64, MBR)> {
+    /// The answer, and the table afterwards.
+    fn write(&mut self, t: &MBR, x: &[u8]) -> (u64, MBR) {
         let (b, o) = (block::of_table(t), &mut self.given.o);
-        let mut after = vec![FILL; BLOCK];
-        let answer = unsafe {
-            cv_write_into(b.as_ptr(), BLOCK, x.as_ptr(), x.len(), o.as_mut_ptr(), o.len(), after.as_mut_ptr(), BLOCK)
-        };
-        if answer >> 32 != 0 {
-            assert!(after.iter().all(|&b| b == FILL), "a refusal has written to a block");
-            return Some((answer, t.clone()));
+        let call = |p, n| unsafe { cv_write_into(p, n, x.as_ptr(), x.len(), o.as_mut_ptr(), o.len()) };
+        match changed(&b, call) {
+            Ok((length, after)) => (length.into(), after),
+            Err(k) => (k << 32, t.clone()),
         }
-        Some((answer, block::table(&after, Some(&b))))
     }
 
-    #[cfg(not(feature = "after"))]
-    fn write(&mut self, t: &MBR, x: &[u8]) -> Option<(u64, MBR)> {
-        let (b, o) = (block::of_table(t), &mut self.given.o);
-        let answer = unsafe { cv_write_into(b.as_ptr(), BLOCK, x.as_ptr(), x.len(), o.as_mut_ptr(), o.len()) };
-        (answer >> 32 != 0).then(|| (answer, t.clone()))
-    }
-
-    #[cfg(feature = "header")]
     fn write_header(&mut self, t: &MBR, x: &[u8]) -> Said {
         let (b, o) = (block::of_table(t), &mut self.given.o);
         let h = &b[block::HEADER..][..block::HEADER_LENGTH];
         let answer = unsafe { cv_write_header(h.as_ptr(), h.len(), x.as_ptr(), x.len(), o.as_mut_ptr(), o.len()) };
         self.lent(answer)
-    }
-
-    #[cfg(not(feature = "header"))]
-    fn write_header(&mut self, _: &MBR, _: &[u8]) -> Said {
-        None
     }
 
     /// What the archive says of X without a case's word for it: the listing, the sector that is wanted, the check, what
@@ -376,7 +254,7 @@ impl Archive {
 
 /// The table that an extract reads as.
 fn read(x: &[u8]) -> Result<MBR, u64> {
-    block_of(None, |out, n| u64::from(unsafe { cv_read(x.as_ptr(), x.len(), out, n) }) << 32).map(|(_, t)| t)
+    block_of(|out, n| u64::from(unsafe { cv_read(x.as_ptr(), x.len(), out, n) }) << 32)
 }
 
 fn chs(word: &str, mut w: Words) -> Said {
@@ -386,16 +264,13 @@ fn chs(word: &str, mut w: Words) -> Said {
             "chs_aligned" => address(cv_chs_from_lba_aligned(w.u32(), w.u16(), w.u8(), w.u8())),
             "chs_to_lba" => number(cv_chs_to_lba(w.u16(), w.u8(), w.u8(), w.u8(), w.u8())),
             "chs_is_valid" => Some(text::truth(cv_chs_is_valid(w.u16(), w.u8(), w.u8(), w.u16(), w.u8(), w.u8()))),
-            #[cfg(feature = "bytes")]
             "chs_to_bytes" => Some(text::hex(&cv_chs_to_bytes(w.u16(), w.u8(), w.u8()).to_le_bytes()[..3])),
-            #[cfg(feature = "bytes")]
             "chs_of_bytes" => address(cv_chs_from_bytes(w.u8(), w.u8(), w.u8())),
             _ => None,
         }
     }
 }
 
-#[cfg(feature = "free")]
 fn places(word: &str, b: &[u8], w: &mut Words) -> Said {
     let (p, n) = (b.as_ptr(), b.len());
     unsafe {
@@ -419,12 +294,6 @@ fn places(word: &str, b: &[u8], w: &mut Words) -> Said {
     }
 }
 
-#[cfg(not(feature = "free"))]
-fn places(_: &str, _: &[u8], _: &mut Words) -> Said {
-    None
-}
-
-#[cfg(feature = "look")]
 fn looks(word: &str, _: &MBR, b: &[u8], w: &mut Words) -> Said {
     let (p, n) = (b.as_ptr(), b.len());
     unsafe {
@@ -448,30 +317,19 @@ fn looks(word: &str, _: &MBR, b: &[u8], w: &mut Words) -> Said {
     }
 }
 
-#[cfg(not(feature = "look"))]
-fn looks(_: &str, _: &MBR, _: &[u8], _: &mut Words) -> Said {
-    None
+/// Whether a type is an extended one.
+pub fn is_extended(sys: u8) -> bool {
+    unsafe { cv_is_extended(sys) }
 }
 
-/// Whether a type is an extended one, if the archive has it.
-pub fn is_extended(_sys: u8) -> Option<bool> {
-    #[cfg(feature = "bytes")]
-    return Some(unsafe { cv_is_extended(_sys) });
-    #[cfg(not(feature = "bytes"))]
-    None
-}
-
-#[allow(unused_variables, unused_mut)]
 fn edits(word: &str, t: &MBR, b: &[u8], mut w: Words, x: &[u8]) -> Said {
     match word {
-        #[cfg(feature = "edit")]
         "remove_at" | "update_from" => {
-            let (p, n) = (b.as_ptr(), b.len());
-            let done = block_of(Some(b), |out, m| {
+            let done = changed(b, |p, n| {
                 let k = unsafe {
                     match word {
-                        "remove_at" => cv_remove_at_sector(p, n, w.u32(), out, m),
-                        _ => cv_update_from(p, n, x.as_ptr(), x.len(), out, m),
+                        "remove_at" => cv_remove_at_sector(p, n, w.u32()),
+                        _ => cv_update_from(p, n, x.as_ptr(), x.len()),
                     }
                 };
                 u64::from(k) << 32
@@ -481,7 +339,6 @@ fn edits(word: &str, t: &MBR, b: &[u8], mut w: Words, x: &[u8]) -> Said {
                 Err(k) => format!("refused {k} {}", text::table(t)),
             })
         }
-        #[cfg(feature = "chs")]
         "update_chs" => {
             let mut slot = b[block::slot(w.usize())..][..block::SLOT].to_vec();
             let k = unsafe { cv_update_chs(slot.as_mut_ptr(), slot.len(), t.cylinders, t.heads, t.sectors) };
@@ -494,68 +351,48 @@ fn edits(word: &str, t: &MBR, b: &[u8], mut w: Words, x: &[u8]) -> Said {
 
 /// What every function that takes a block says of this one, with the number in the lower half: a block that is none is
 /// refused by all alike. Nothing that is lent to them may change.
-pub fn refusals(b: &[u8], x: &[u8]) -> Vec<(&'static str, u64)> {
-    let (p, n) = (b.as_ptr(), b.len());
+pub fn refusals(b: &[u8], x: &[u8]) -> [(&'static str, u64); 17] {
+    let mut given = b.to_vec();
+    let (p, n) = (given.as_mut_ptr(), given.len());
     let mut out = vec![FILL; BLOCK];
     let (q, m) = (out.as_mut_ptr(), BLOCK);
     let (y, l) = (x.as_ptr(), x.len());
-    let mut said = Vec::new();
-    unsafe {
-        said.push(("find_at_sector", cv_find_at_sector(p, n, 1) >> 32));
-        said.push(("push", cv_push(p, n, 0x83, 1, 1, q, m) >> 32));
-        said.push(("remove", cv_remove(p, n, 5, q, m).into()));
-        #[cfg(feature = "look")]
-        {
-            said.push(("len", cv_len(p, n) >> 32));
-            said.push(("get", cv_get(p, n, 1, q, m).into()));
-            said.push(("check_geometry", cv_check_geometry(p, n) >> 32));
-            said.push(("get_cylinder_size", cv_get_cylinder_size(p, n) >> 32));
-        }
-        #[cfg(feature = "sound")]
-        said.push(("is_sound", cv_is_sound(p, n) >> 32));
-        #[cfg(feature = "edit")]
-        {
-            said.push(("remove_at_sector", cv_remove_at_sector(p, n, 1, q, m).into()));
-            said.push(("update_from", cv_update_from(p, n, y, l, q, m).into()));
-        }
-        #[cfg(feature = "free")]
-        {
-            said.push(("find_free_sectors", cv_find_free_sectors(p, n, q, m) >> 32));
-            said.push(("find_first_place", cv_find_first_place(p, n, 1) >> 32));
-            said.push(("find_last_place", cv_find_last_place(p, n, 1) >> 32));
-            said.push(("find_optimal_place", cv_find_optimal_place(p, n, 1) >> 32));
-            said.push(("get_maximum_partition_size", cv_get_maximum_partition_size(p, n) >> 32));
-            said.push(("get_maximum_partition_size_for", cv_get_maximum_partition_size_for(p, n, 5) >> 32));
-        }
-        let mut after = vec![FILL; BLOCK];
-        #[cfg(feature = "after")]
-        said.push(("write_into", cv_write_into(p, n, y, l, q, m, after.as_mut_ptr(), BLOCK) >> 32));
-        #[cfg(not(feature = "after"))]
-        said.push(("write_into", cv_write_into(p, n, y, l, q, m) >> 32));
-        out.append(&mut after);
-    }
-    assert!(out.iter().all(|&b| b == FILL), "a refusal has written");
+    let said = unsafe {
+        [
+            ("find_at_sector", cv_find_at_sector(p, n, 1) >> 32),
+            ("push", cv_push(p, n, 0x83, 1, 1) >> 32),
+            ("remove", cv_remove(p, n, 5).into()),
+            ("len", cv_len(p, n) >> 32),
+            ("get", cv_get(p, n, 1, q, m).into()),
+            ("check_geometry", cv_check_geometry(p, n) >> 32),
+            ("get_cylinder_size", cv_get_cylinder_size(p, n) >> 32),
+            ("is_sound", cv_is_sound(p, n) >> 32),
+            ("remove_at_sector", cv_remove_at_sector(p, n, 1).into()),
+            ("update_from", cv_update_from(p, n, y, l).into()),
+            ("find_free_sectors", cv_find_free_sectors(p, n, q, m) >> 32),
+            ("find_first_place", cv_find_first_place(p, n, 1) >> 32),
+            ("find_last_place", cv_find_last_place(p, n, 1) >> 32),
+            ("find_optimal_place", cv_find_optimal_place(p, n, 1) >> 32),
+            ("get_maximum_partition_size", cv_get_maximum_partition_size(p, n) >> 32),
+            ("get_maximum_partition_size_for", cv_get_maximum_partition_size_for(p, n, 5) >> 32),
+            ("write_into", cv_write_into(p, n, y, l, q, m) >> 32),
+        ]
+    };
+    assert!(given == b && out.iter().all(|&b| b == FILL), "a refusal has written");
     said
 }
 
-/// What reading and, on the block of what was read, push and removal say if the lent output is no block.
-pub fn short_outputs(x: &[u8], length: usize) -> [(u64, u64); 3] {
+/// What reading and a new table say if the lent output is no block.
+pub fn short_outputs(x: &[u8], length: usize) -> [(u64, u64); 2] {
     let mut out = vec![FILL; length];
     let (q, m) = (out.as_mut_ptr(), length);
-    let own = |r: Result<(u32, MBR), u64>| r.map_or_else(|k| k, |_| 101);
-    let good = read(x);
-    let b = good.as_ref().map_or(vec![0; BLOCK], block::of_table);
-    let (p, n) = (b.as_ptr(), BLOCK);
-    let said = unsafe {
-        [
-            (cv_read(x.as_ptr(), x.len(), q, m).into(), good.map_or_else(|k| k, |_| 101)),
-            (cv_push(p, n, 0x83, 4096, 4096, q, m) >> 32, own(block_of(Some(&b), |o, l| cv_push(p, n, 0x83, 4096, 4096, o, l)))),
-            (
-                cv_remove(p, n, 5, q, m).into(),
-                own(block_of(Some(&b), |o, l| u64::from(cv_remove(p, n, 5, o, l)) << 32)),
-            ),
-        ]
-    };
+    let own = |r: Result<MBR, u64>| r.map_or_else(|k| k, |_| 101);
+    let (y, l) = (x.as_ptr(), x.len());
+    let made = block_of(|o, n| u64::from(unsafe { cv_new_from(y, l, 1, o, n) }) << 32);
+    let said = [
+        (unsafe { cv_read(y, l, q, m) }.into(), own(read(x))),
+        (unsafe { cv_new_from(y, l, 1, q, m) }.into(), own(made)),
+    ];
     assert!(out.iter().all(|&b| b == FILL), "a refusal has written");
     said
 }

@@ -5,9 +5,7 @@ use mbrman::{LogicalPartition, MBRHeader, MBRPartitionEntry, CHS, MBR};
 use crate::text;
 
 pub const BLOCK: usize = 12108;
-#[cfg(feature = "header")]
 pub const HEADER: usize = 20;
-#[cfg(feature = "header")]
 pub const HEADER_LENGTH: usize = 520;
 pub const SLOT: usize = 482;
 const SLOTS: usize = 24;
@@ -132,7 +130,6 @@ impl Reader<'_> {
     }
 }
 
-#[cfg(any(feature = "look", feature = "chs"))]
 pub fn entry(bytes: &[u8]) -> MBRPartitionEntry {
     Reader(bytes).entry()
 }
@@ -141,7 +138,6 @@ pub fn logical(bytes: &[u8]) -> LogicalPartition {
     Reader(bytes).logical()
 }
 
-#[cfg(feature = "header")]
 pub fn header(bytes: &[u8]) -> MBRHeader {
     Reader(bytes).header()
 }

@@ -23,7 +23,7 @@ fn listing(read: Result<MBR, Refused>) -> String {
     let mut text = format!("disk {} align {} logical {}\n", t.disk_size, t.align, t.logical_partitions.len());
     for (number, e) in t.iter().filter(|(_, e)| e.is_used()) {
         text += &format!("{number} {:02X} {:02X} {} {}\n", e.sys, e.boot, e.starting_lba, e.sectors);
-        assert!(archive::is_extended(e.sys).unwrap_or(e.is_extended()) == e.is_extended(), "the type {}", e.sys);
+        assert!(archive::is_extended(e.sys) == e.is_extended(), "the type {}", e.sys);
     }
     text
 }

@@ -16,6 +16,9 @@ mod adapter;
 mod archive;
 #[cfg(feature = "archive")]
 mod block;
+#[cfg(feature = "archive")]
+#[path = "../../../rust/src/c.rs"]
+mod c;
 mod crate_side;
 #[cfg(feature = "archive")]
 mod extracts;

@@ -7,18 +7,30 @@ use Prim.Native.Nat.{ℕ, _≤_, _<_}
 use native.Mathlib.Omega.{arith}
 use lib.Dec.{leb}
 use lib.ListN.{length}
-use borrow.Author.Tests.{lt-leb, le-leb}
+use borrow.Author.Tests.{lt-leb, le-leb, leb-true}
 use Rattle.base.specs.Put.{put}
 use Rattle.base.specs.Said.{Said, gives, refuses, failure, valueOr}
-use Rattle.base.specs.Checks.{_!_, answer}
+use Rattle.base.specs.Checks.{_!_, answer, first-fail}
+use Rattle.base.proofs.Checks.{none-fails}
 use Rattle.table.specs.declared.MBR.{MBR}
+use Rattle.block.specs.Block.{tableIn, blockChecks}
+use Rattle.block.proofs.Inside.{count-in}
 use Rattle.plan.proofs.Laws.{Wide}
 use Rattle.free.specs.declared.Run.{Run}
 use Rattle.free.specs.declared.Runs.{Runs}
-use Rattle.free.specs.Free.{free, listed, runsIn}
-use Rattle.free.proofs.Laws.{runs-listed}
+use Rattle.free.specs.declared.FreeAnswer.{FreeAnswer}
+use Rattle.free.specs.Free.{free, listed, runsIn, freeSaid, Usable, Told}
+use Rattle.free.proofs.Laws.{runs-listed, said-told, free-usable}
 use Rattle.abi.specs.Packed.{upper, packed}
 use Rattle.abifree.specs.Free.{runPart, runsPart, runsFor, inRoom, howMany, runsAfter}
+
+-- a block that passes its checks has at most 24 logical partitions
+pub block-count : (b : List ℕ) → first-fail (blockChecks b) ≡ none → tableIn b .count ≤ 24
+block-count b h = rw (count-in b) (leb-true _ _ (none-fails (blockChecks b) h .1 .0))
+
+-- the free runs of a table are usable at its alignment
+pub usable-here : (t : MBR) (f : FreeAnswer) (n : ℕ) → n ≡ t .align → Told f (free t) → Usable n (freeSaid f)
+usable-here t f n a h = rw (a, said-told f (free t) h) (free-usable t)
 
 -- every run has 8 bytes
 pub runs-wide : (rs : List Run) → Wide runPart 8 rs

@@ -3,13 +3,14 @@ use base::Answer;
 use free::Run;
 use free::Runs;
 use place::Place;
+use place::Rule;
 use place::Size;
-use table::MBR;
 ghost use mathlib.Core.Path.{_≡_};
 ghost use Prim.Native.Nat.{_+_, _*_, _≤_};
 ghost use lib.ListN.{length};
 ghost use Rattle.base.specs.Put.{put};
 ghost use Rattle.base.specs.Said.{gives, andThen};
+ghost use Rattle.block.specs.Block.{tableIn};
 ghost use Rattle.free.specs.Free.{runsIn, mostRuns};
 ghost use Rattle.place.specs.Place.{placeSaid, sizeSaid, firstPlace, lastPlace, optimalPlace, maximumSize, maximumFor};
 ghost use Rattle.abi.specs.Packed.{packed, packedOption};
@@ -55,11 +56,12 @@ fn put_runs(out: &mut [u8], x: Runs)
     }
 }
 
-fn free_on(t: MBR, out: &mut [u8]) -> u64
-    ensures { λ r. ⌜ r ≡ packed (howMany (runsFor (gives t) (length (now (out .entry))))) ⌝ }
-    ensures { λ r. ⌜ now (out .exit) ≡ runsAfter (now (out .entry)) (runsFor (gives t) (length (now (out .entry)))) ⌝ }
+fn free_on(b: &[u8], out: &mut [u8]) -> u64
+    requires { ⌜ (length (now b) ≡ 12108) × (tableIn (now b) .count ≤ 24) ⌝ }
+    ensures { λ r. ⌜ r ≡ packed (howMany (runsFor (gives (tableIn (now (b .entry)))) (length (now (out .entry))))) ⌝ }
+    ensures { λ r. ⌜ now (out .exit) ≡ runsAfter (now (out .entry)) (runsFor (gives (tableIn (now (b .entry)))) (length (now (out .entry)))) ⌝ }
 {
-    let f = free::find_free_sectors(t);
+    let f = room::free_of(b);
     let answer = f.answer;
     if let Answer::Refused(k) = answer {
         return abi::upper(k);
@@ -81,20 +83,19 @@ pub extern "C" fn cv_find_free_sectors(b: &[u8], out: &mut [u8]) -> u64
 {
     match blockread::check(b) {
         Answer::Refused(k) => abi::upper(k),
-        Answer::Done => {
-            let t = partread::get_table(b);
-            free_on(t, out)
-        }
+        Answer::Done => free_on(b, out),
     }
 }
 
-fn place_of(t: MBR, which: Which, size: u32) -> Place
-    ensures { λ r. ⌜ placeSaid r ≡ placeBy which t size ⌝ }
+fn place_of(b: &[u8], which: Which, size: u32) -> Place
+    requires { ⌜ (length (now b) ≡ 12108) × (tableIn (now b) .count ≤ 24) ⌝ }
+    ensures { λ r. ⌜ placeSaid r ≡ placeBy which (tableIn (now (b .entry))) size ⌝ }
 {
+    let f = room::free_of(b);
     match which {
-        Which::First => place::find_first_place(t, size),
-        Which::Last => place::find_last_place(t, size),
-        Which::Optimal => place::find_optimal_place(t, size),
+        Which::First => place::start_by(f, Rule::First, size),
+        Which::Last => place::last_by(f, base::get32(b, 8), size),
+        Which::Optimal => place::start_by(f, Rule::Smallest, size),
     }
 }
 
@@ -114,10 +115,7 @@ fn place_in(b: &[u8], which: Which, size: u32) -> u64
 {
     match blockread::check(b) {
         Answer::Refused(k) => abi::upper(k),
-        Answer::Done => {
-            let t = partread::get_table(b);
-            of_place(place_of(t, which, size))
-        }
+        Answer::Done => of_place(place_of(b, which, size)),
     }
 }
 
@@ -145,12 +143,14 @@ pub extern "C" fn cv_find_optimal_place(b: &[u8], size: u32) -> u64
     place_in(b, Which::Optimal, size)
 }
 
-fn size_of(t: MBR, whose: Whose) -> Size
-    ensures { λ r. ⌜ sizeSaid r ≡ sizeFor whose t ⌝ }
+fn size_of(b: &[u8], whose: Whose) -> Size
+    requires { ⌜ (length (now b) ≡ 12108) × (tableIn (now b) .count ≤ 24) ⌝ }
+    ensures { λ r. ⌜ sizeSaid r ≡ sizeFor whose (tableIn (now (b .entry))) ⌝ }
 {
+    let f = room::free_of(b);
     match whose {
-        Whose::New => place::get_maximum_partition_size(t),
-        Whose::Number(i) => place::get_maximum_partition_size_for(t, i as usize),
+        Whose::New => place::size_by(f, base::get32(b, 8)),
+        Whose::Number(i) => place::grown_by(f, spot::get(b, i as usize)),
     }
 }
 
@@ -169,10 +169,7 @@ fn size_in(b: &[u8], whose: Whose) -> u64
 {
     match blockread::check(b) {
         Answer::Refused(k) => abi::upper(k),
-        Answer::Done => {
-            let t = partread::get_table(b);
-            of_size(size_of(t, whose))
-        }
+        Answer::Done => of_size(size_of(b, whose)),
     }
 }
 

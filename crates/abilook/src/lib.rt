@@ -2,12 +2,9 @@
 // refusal's number in the upper half; 255 there for none. An entry goes to lent bytes.
 use base::Answer;
 use entry::MBRPartitionEntry;
-use lookup::Count;
 use lookup::Got;
 use lookup::Spot;
-use push::Complete;
-use push::Size;
-use table::MBR;
+use push::Geometry;
 ghost use mathlib.Core.Path.{_≡_};
 ghost use mathlib.Core.Option.{some};
 ghost use Prim.Native.Nat.{_≤_};
@@ -15,6 +12,8 @@ ghost use lib.ListN.{length};
 ghost use Rattle.base.specs.Said.{gives, andThen};
 ghost use Rattle.lookup.specs.Find.{findSays};
 ghost use Rattle.lookup.specs.Numbers.{lenSays, getSays};
+ghost use Rattle.block.specs.Block.{tableIn};
+ghost use Rattle.push.specs.Push.{geometryOf};
 ghost use Rattle.push.specs.Answers.{checkGeometrySays, cylinderSizeSays};
 ghost use Rattle.abi.specs.Packed.{packed, packedOption, packedBool};
 ghost use Rattle.abitable.specs.Blocks.{blockSays};
@@ -26,10 +25,11 @@ const NONE: u8 = 255;
 // The bytes of an entry in a block.
 const ENTRY: usize = 18;
 
-fn find_on(t: MBR, sector: u32) -> u64
-    ensures { λ r. ⌜ r ≡ packedOption (findSays t sector) ⌝ }
+fn find_on(b: &[u8], sector: u32) -> u64
+    requires { ⌜ (length (now b) ≡ 12108) × (tableIn (now b) .count ≤ 24) ⌝ }
+    ensures { λ r. ⌜ r ≡ packedOption (findSays (tableIn (now (b .entry))) sector) ⌝ }
 {
-    match lookup::find_at_sector(t, sector) {
+    match spot::find(b, sector) {
         Spot::Nothing => abi::upper(NONE),
         Spot::Number(n) => n as u64,
         Spot::Refused(k) => abi::upper(k),
@@ -43,20 +43,16 @@ pub extern "C" fn cv_find_at_sector(b: &[u8], sector: u32) -> u64
 {
     match blockread::check(b) {
         Answer::Refused(k) => abi::upper(k),
-        Answer::Done => {
-            let t = partread::get_table(b);
-            find_on(t, sector)
-        }
+        Answer::Done => find_on(b, sector),
     }
 }
 
-fn len_on(t: MBR) -> u64
-    ensures { λ r. ⌜ r ≡ packed (lenSays t) ⌝ }
+fn len_on(b: &[u8]) -> u64
+    requires { ⌜ (length (now b) ≡ 12108) × (tableIn (now b) .count ≤ 24) ⌝ }
+    ensures { λ r. ⌜ r ≡ packed (lenSays (tableIn (now (b .entry)))) ⌝ }
 {
-    match lookup::len(t) {
-        Count::Is(n) => n as u64,
-        Count::Refused(k) => abi::upper(k),
-    }
+    let n = inside::count(b);
+    (4 + n) as u64
 }
 
 // How many partitions the table of a block has, the four primaries always counted; the block's refusals.
@@ -66,25 +62,31 @@ pub extern "C" fn cv_len(b: &[u8]) -> u64
 {
     match blockread::check(b) {
         Answer::Refused(k) => abi::upper(k),
-        Answer::Done => {
-            let t = partread::get_table(b);
-            len_on(t)
-        }
+        Answer::Done => len_on(b),
     }
 }
 
-fn check_on(t: MBR) -> u64
-    ensures { λ r. ⌜ r ≡ packedBool (checkGeometrySays t) ⌝ }
+fn geometry(b: &[u8]) -> Geometry
+    requires { ⌜ length (now b) ≡ 12108 ⌝ }
+    ensures { λ r. ⌜ r ≡ geometryOf (tableIn (now (b .entry))) ⌝ }
 {
-    match push::check_geometry(t) {
-        Complete::Is(b) => {
-            if b {
-                return 1;
-            }
-            0
-        }
-        Complete::Refused(k) => abi::upper(k),
+    let cylinders = base::get16(b, 16);
+    Geometry {
+        cylinders: cylinders,
+        heads: b[18],
+        sectors: b[19],
     }
+}
+
+fn check_on(b: &[u8]) -> u64
+    requires { ⌜ (length (now b) ≡ 12108) × (tableIn (now b) .count ≤ 24) ⌝ }
+    ensures { λ r. ⌜ r ≡ packedBool (checkGeometrySays (tableIn (now (b .entry)))) ⌝ }
+{
+    let g = geometry(b);
+    if push::is_complete(g) {
+        return 1;
+    }
+    0
 }
 
 // Whether the geometry in the table of a block is complete, 1 or 0; the block's refusals.
@@ -94,20 +96,16 @@ pub extern "C" fn cv_check_geometry(b: &[u8]) -> u64
 {
     match blockread::check(b) {
         Answer::Refused(k) => abi::upper(k),
-        Answer::Done => {
-            let t = partread::get_table(b);
-            check_on(t)
-        }
+        Answer::Done => check_on(b),
     }
 }
 
-fn size_on(t: MBR) -> u64
-    ensures { λ r. ⌜ r ≡ packed (cylinderSizeSays t) ⌝ }
+fn size_on(b: &[u8]) -> u64
+    requires { ⌜ (length (now b) ≡ 12108) × (tableIn (now b) .count ≤ 24) ⌝ }
+    ensures { λ r. ⌜ r ≡ packed (cylinderSizeSays (tableIn (now (b .entry)))) ⌝ }
 {
-    match push::get_cylinder_size(t) {
-        Size::Is(n) => n as u64,
-        Size::Refused(k) => abi::upper(k),
-    }
+    let n = base::wide(b[18]) * base::wide(b[19]);
+    n as u64
 }
 
 // The sectors of a cylinder by the geometry in the table of a block; the block's refusals.
@@ -116,11 +114,8 @@ pub extern "C" fn cv_get_cylinder_size(b: &[u8]) -> u64
     ensures { λ r. ⌜ r ≡ packed (andThen (blockSays (now (b .entry))) cylinderSizeSays) ⌝ }
 {
     match blockread::check(b) {
-        Answer::Refused(k) => abi::upper(k),
-        Answer::Done => {
-            let t = partread::get_table(b);
-            size_on(t)
-        }
+        Answer::Refused(refused) => abi::upper(refused),
+        Answer::Done => size_on(b),
     }
 }
 
@@ -136,11 +131,12 @@ fn put_found(e: MBRPartitionEntry, out: &mut [u8]) -> u8
     0
 }
 
-fn get_on(t: MBR, number: u32, out: &mut [u8]) -> u8
-    ensures { λ r. ⌜ r ≡ entryStatus (length (now (out .entry))) (getSays t number) ⌝ }
-    ensures { λ r. ⌜ now (out .exit) ≡ entryAfter (now (out .entry)) (getSays t number) ⌝ }
+fn get_on(b: &[u8], number: u32, out: &mut [u8]) -> u8
+    requires { ⌜ (length (now b) ≡ 12108) × (tableIn (now b) .count ≤ 24) ⌝ }
+    ensures { λ r. ⌜ r ≡ entryStatus (length (now (out .entry))) (getSays (tableIn (now (b .entry))) number) ⌝ }
+    ensures { λ r. ⌜ now (out .exit) ≡ entryAfter (now (out .entry)) (getSays (tableIn (now (b .entry))) number) ⌝ }
 {
-    match lookup::get(t, number as usize) {
+    match spot::get(b, number as usize) {
         Got::Nothing => NONE,
         Got::Entry(e) => put_found(e, out),
         Got::Refused(k) => k,
@@ -156,9 +152,6 @@ pub extern "C" fn cv_get(b: &[u8], number: u32, out: &mut [u8]) -> u8
 {
     match blockread::check(b) {
         Answer::Refused(k) => k,
-        Answer::Done => {
-            let t = partread::get_table(b);
-            get_on(t, number, out)
-        }
+        Answer::Done => get_on(b, number, out),
     }
 }

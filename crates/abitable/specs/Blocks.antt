@@ -1,15 +1,17 @@
 -- The library's own answers, with tables as blocks. Assumes nothing.
-use Prim.Native.Nat.{ℕ}
+use Prim.Native.Nat.{ℕ, _-_}
 use mathlib.Core.List.{List}
 use lib.ListN.{length}
-use Rattle.base.specs.Said.{Said, gives, refuses, andThen, failure}
+use Rattle.base.specs.Said.{Said, gives, refuses, andThen, failure, valueOr}
 use Rattle.base.specs.Checks.{checked, answer}
 use Rattle.table.specs.declared.MBR.{MBR}
 use Rattle.abi.specs.Packed.{status}
 use Rattle.block.specs.Block.{blockBytes, tableIn, putChecks, blockChecks}
+use Rattle.inblock.specs.Changed.{withSlot, withoutSlot}
 use Rattle.read.specs.Read.{Table, tableOf, readSays}
-use Rattle.push.specs.Push.{pushSays, pushTable}
-use Rattle.lookup.specs.Remove.{removeChecks, removedTable}
+use Rattle.request.specs.Asked.{laterThan}
+use Rattle.push.specs.Push.{pushSays, newLogical, requestOf}
+use Rattle.lookup.specs.Remove.{removeChecks}
 
 -- the table in a lent block: 101, 6, 102
 abbrev pub blockSays : List ℕ → Said MBR
@@ -22,30 +24,32 @@ byValue s = andThen s (λ t. gives (tableOf t))
 abbrev pub tableSays : List ℕ → Said MBR
 tableSays x = byValue (readSays x)
 
--- a value beside a table that is put into a lent block of this length: 6, 101
-abbrev pub beside : MBR → ℕ → ℕ → Said ℕ
-beside t room v = answer (putChecks t room) v
-
 -- the number of a refusal, or 0
-abbrev pub number : Said ℕ → ℕ
+abbrev pub number : {A : Type 0} → Said A → ℕ
 number s = status (failure s)
+
+-- a table that is put into a lent block of this length: 6, 101
+abbrev pub alone : ℕ → Said MBR → Said ℕ
+alone room s = andThen s (λ t. answer (putChecks t room) 0)
 
 -- a lent block after a table is put there: as before if there is none, or if it is refused
 abbrev pub blockAfter : List ℕ → Said MBR → List ℕ
 blockAfter out (refuses k) = out
 blockAfter out (gives t) = checked (putChecks t (length out)) (λ _. out) (blockBytes t)
 
--- push: the new partition's number, and the new table
-abbrev pub pushOn : MBR → ℕ → ℕ → ℕ → ℕ → Said ℕ
-pushOn t sys start sectors room = andThen (pushSays t sys start sectors) (beside (pushTable t sys start sectors) room)
+-- a block after a call that changes it where it lies: as before if it is refused
+abbrev pub bytesAfter : List ℕ → (MBR → Said (List ℕ)) → List ℕ
+bytesAfter b f = valueOr b (andThen (blockSays b) f)
 
-abbrev pub pushedOn : MBR → ℕ → ℕ → ℕ → Said MBR
-pushedOn t sys start sectors = andThen (pushSays t sys start sectors) (λ _. gives (pushTable t sys start sectors))
+-- the table in it
+abbrev pub tableAfter : List ℕ → (MBR → MBR) → Said MBR
+tableAfter b f = andThen (blockSays b) (λ t. gives (f t))
+
+-- push: the new partition's slot behind the others
+abbrev pub pushedOn : List ℕ → ℕ → ℕ → ℕ → MBR → Said (List ℕ)
+pushedOn b sys start sectors t =
+    andThen (pushSays t sys start sectors) (λ _. gives (withSlot b (t .count) (newLogical (laterThan (t .count)) (requestOf t sys start sectors))))
 
 -- removal of a logical partition by its number
-abbrev pub removedOn : MBR → ℕ → Said MBR
-removedOn t n = answer (removeChecks t n) (removedTable t n)
-
--- nothing but a table is put into a lent block of this length
-abbrev pub alone : ℕ → Said MBR → Said ℕ
-alone room s = andThen s (λ t. beside t room 0)
+abbrev pub removedOn : List ℕ → ℕ → MBR → Said (List ℕ)
+removedOn b n t = answer (removeChecks t n) (withoutSlot b (t .count) (n - 5))

@@ -1,64 +1,99 @@
--- From writing by value to an extract and a second block. Assumes nothing.
+-- From writing a block to an extract and the block as writing leaves it. Assumes nothing.
 use mathlib.Core.Path.{_≡_, refl, sym, ap, subst, _∙_}
-use mathlib.Core.Bool.{Bool}
 use mathlib.Core.Option.{Option, none, some}
-use mathlib.Core.List.{List, [], _∷_}
-use Prim.Native.Nat.{ℕ, _≤_}
+use mathlib.Core.List.{List, _++_}
+use Prim.Native.Nat.{ℕ, _+_, _≤_}
 use native.Mathlib.Omega.{arith}
-use lib.Dec.{eqb}
-use lib.ListN.{length}
-use borrow.Author.Tests.{leb-true, eq-eqb, ne-eqb}
-use Rattle.base.specs.Said.{Said, gives, refuses}
-use Rattle.base.specs.Checks.{_!_, answer}
-use Rattle.base.proofs.Checks.{answer-gives, none-fails, checked-none}
+use lib.ListN.{length, drop}
+use Rattle.base.specs.Put.{put}
+use Rattle.base.specs.Said.{Said, gives, refuses, andThen, valueOr}
+use Rattle.base.specs.Checks.{first-fail}
 use Rattle.entry.specs.declared.MBRPartitionEntry.{MBRPartitionEntry}
+use Rattle.table.specs.declared.LogicalPartition.{LogicalPartition}
 use Rattle.table.specs.declared.MBR.{MBR}
-use Rattle.table.specs.Table.{extendedIn}
-use Rattle.block.specs.Block.{blockBytes}
-use Rattle.write.specs.Write.{writeChecks, extractOver, tableStores, leftBy}
+use Rattle.table.specs.Table.{extendedIn, withLogicals}
+use Rattle.block.specs.Block.{slotsPart, tableIn, blockChecks}
+use Rattle.block.specs.Fits.{SlotsFit}
+use Rattle.settle.specs.Settle.{relisted, Held, settledIn}
+use Rattle.settle.proofs.Laws.{held-long, settled-long}
+use Rattle.inblock.proofs.Alike.{passed, good-says}
+use Rattle.inblock.proofs.Slots.{slots-put, slots-good}
+use Rattle.write.specs.Write.{leftBy}
 use Rattle.write.specs.Answers.{writeSays, writeTable, writeLeaves}
+use Rattle.write.proofs.Steps.{table-said}
 use Rattle.abi.specs.Packed.{upper, packed}
-use Rattle.abiwrite.specs.Writing.{withRoom, lengthOf, outputOf, blockBy, afterOf}
+use Rattle.abitable.specs.Blocks.{blockSays, bytesAfter, tableAfter}
+use Rattle.abitable.proofs.Laws.{block-done, block-refused, on-refused, on-done, after-refused, after-done}
+use Rattle.abiwrite.specs.Writing.{lengthOf, outputOf, leftIn, writtenOn}
 
--- writing leaves the count as it is
-left-count : (o : Option MBRPartitionEntry) (t : MBR) → leftBy o t .count ≡ t .count
-left-count none t = refl
-left-count (some e) t = refl
+-- a block that passes its checks
+pub block-held : (b : List ℕ) → first-fail (blockChecks b) ≡ none → Held b
+block-held b h = (passed b h .long, passed b h .few)
 
--- so a table that was written has a count that a block holds
-pub written-count : (t u : MBR) (x : List ℕ) (room n : ℕ) → writeSays t x room ≡ gives n → u ≡ writeTable t x room → u .count ≤ 24
-unfolding writeSays writeTable writeChecks
-written-count t u x room n h e =
-    let f = answer-gives (writeChecks t x room) (length (extractOver x (tableStores t))) n h .0 in
-    let p : t .count ≤ 24 = leb-true _ _ (none-fails (writeChecks t x room) f .0) in
-    let q : u .count ≡ t .count =
-    ap (λ (z : MBR). z .count) (e ∙ checked-none (writeChecks t x room) (λ k. t) (leftBy (extendedIn t) t) f) ∙ left-count (extendedIn t) t in
-    omega arith
+-- a block as writing leaves it, and the table in it
+abbrev Left : List ℕ → List ℕ → Option MBRPartitionEntry → Type 0
+Left b c o = (c ≡ leftIn o b (tableIn b)) × (blockSays c ≡ gives (leftBy o (tableIn b)))
 
--- the room for the second block
-pub room-refused : (t : MBR) (room : ℕ) → (room ≡ 12108 → ⊥) → withRoom (gives t) room ≡ refuses 101
-room-refused t room h = ap (λ (b : Bool). answer ((101 ! b) ∷ []) t) (ne-eqb _ _ h)
+module _ (b : List ℕ) (h : first-fail (blockChecks b) ≡ none) where
+  pub left-none : extendedIn (tableIn b) ≡ none → Left b b (extendedIn (tableIn b))
+  left-none e = subst (Left b b) (sym e) (refl, block-done b (tableIn b) h refl)
 
-pub room-done : (t : MBR) (room : ℕ) → room ≡ 12108 → withRoom (gives t) room ≡ gives t
-room-done t room h = ap (λ (b : Bool). answer ((101 ! b) ∷ []) t) (eq-eqb _ _ h)
+  module _ (x : ℕ) (f : SlotsFit (settledIn (tableIn b) x)) where
+    abbrev ls : List LogicalPartition
+    ls = settledIn (tableIn b) x
 
--- the answer, the output and the second block afterwards
-abbrev pub Wrote : Said MBR → List ℕ → List ℕ → List ℕ → ℕ → List ℕ → List ℕ → Type 0
-Wrote s x out after r o a = (r ≡ packed (lengthOf s x (length out))) × ((o ≡ outputOf s x out) × (a ≡ afterOf s x (length out) after))
+    many : length ls ≡ tableIn b .count
+    many = settled-long (tableIn b) x (held-long b (block-held b h))
 
-pub wrote-by : (s z : Said MBR) (x out after : List ℕ) (r : ℕ) (o a : List ℕ) → s ≡ z → Wrote z x out after r o a → Wrote s x out after r o a
-wrote-by s z x out after r o a e w = subst (λ (v : Said MBR). Wrote v x out after r o a) (sym e) w
+    few : 0 + length ls ≤ 24
+    few = omega (arith, many, passed b h .few)
 
-pub wrote-refused : (s : Said MBR) (k : ℕ) (x out after : List ℕ) (r : ℕ) → s ≡ refuses k → r ≡ upper k → Wrote s x out after r out after
-wrote-refused s k x out after r e p = wrote-by s (refuses k) x out after r out after e (p, (refl, refl))
+    settled-says : blockSays (put b 540 (slotsPart ls)) ≡ gives (relisted (tableIn b) ls)
+    settled-says =
+        let n : 0 + length ls ≡ tableIn b .count = omega (arith, many) in
+        good-says (put b 540 (slotsPart ls)) (relisted (tableIn b) ls) (slots-good b ls 0 (passed b h) f few)
+        (slots-put b ls 0 (passed b h) f few ∙ ap (λ (n : ℕ). withLogicals (tableIn b) (ls ++ drop n (tableIn b .«logical_partitions»)) (tableIn b .count)) n)
 
--- a table that writing refuses, and one that it takes
-pub writing-refused : (t : MBR) (k : ℕ) (x out after : List ℕ) (r : ℕ) (o : List ℕ) → writeSays t x (length out) ≡ refuses k → r ≡ upper k → o ≡ writeLeaves t x out
-    → Wrote (gives t) x out after r o after
-writing-refused t k x out after r o e p q =
-    (p ∙ sym (ap packed e), (q, sym (ap (λ (z : Said ℕ). blockBy z (writeTable t x (length out)) after) e)))
+  pub left-some : (e : MBRPartitionEntry) (c : List ℕ) → extendedIn (tableIn b) ≡ some e → c ≡ put b 540 (slotsPart (settledIn (tableIn b) (e .«starting_lba»)))
+      → SlotsFit (settledIn (tableIn b) (e .«starting_lba»)) → Left b c (extendedIn (tableIn b))
+  left-some e c i p f = subst (Left b c) (sym i) (p, ap blockSays p ∙ settled-says (e .«starting_lba») f)
 
-pub writing-done : (t u : MBR) (n : ℕ) (x out after : List ℕ) (o a : List ℕ) → writeSays t x (length out) ≡ gives n → u ≡ writeTable t x (length out) → o ≡ writeLeaves t x out
-    → a ≡ blockBytes u → Wrote (gives t) x out after n o a
-writing-done t u n x out after o a e d q b =
-    (sym (ap packed e), (q, b ∙ ap blockBytes d ∙ sym (ap (λ (z : Said ℕ). blockBy z (writeTable t x (length out)) after) e)))
+-- writing a block that passes its checks: the answer, the output and the block afterwards
+module _ (b x out : List ℕ) (h : first-fail (blockChecks b) ≡ none) where
+  abbrev t : MBR
+  t = tableIn b
+
+  abbrev room : ℕ
+  room = length out
+
+  abbrev Wrote : ℕ → List ℕ → List ℕ → Type 0
+  Wrote r o c =
+      (r ≡ packed (writeSays t x room)) × ((o ≡ writeLeaves t x out) × ((c ≡ valueOr b (writtenOn b x room t)) × (blockSays c ≡ gives (writeTable t x room))))
+
+  on-block : (s : Said ℕ) → writeSays t x room ≡ s → valueOr b (writtenOn b x room t) ≡ valueOr b (andThen s (λ _. gives (leftIn (extendedIn t) b t)))
+  on-block s e = ap (λ (z : Said ℕ). valueOr b (andThen z (λ (_ : ℕ). gives (leftIn (extendedIn t) b t)))) e
+
+  pub writing-refused : (k r : ℕ) (o : List ℕ) → writeSays t x room ≡ refuses k → r ≡ upper k → o ≡ writeLeaves t x out → Wrote r o b
+  writing-refused k r o e p q =
+      (p ∙ sym (ap packed e), (q, (sym (on-block (refuses k) e), block-done b t h refl ∙ ap gives (table-said t t x room (refuses k) (sym e) refl))))
+
+  pub writing-done : (n : ℕ) (o c : List ℕ) → writeSays t x room ≡ gives n → o ≡ writeLeaves t x out → Left b c (extendedIn t) → Wrote n o c
+  writing-done n o c e q l =
+      (sym (ap packed e), (q, (l .0 ∙ sym (on-block (gives n) e), l .1 ∙ ap gives (table-said t (leftBy (extendedIn t) t) x room (gives n) (sym e) refl))))
+
+-- the same of any bytes
+module _ (b x out : List ℕ) where
+  abbrev Wrote-into : ℕ → List ℕ → List ℕ → Type 0
+  Wrote-into r o c =
+      (r ≡ packed (lengthOf (blockSays b) x (length out)))
+      × ((o ≡ outputOf (blockSays b) x out) × ((c ≡ bytesAfter b (writtenOn b x (length out))) × (blockSays c ≡ tableAfter b (λ t. writeTable t x (length out)))))
+
+  pub into-refused : (k r : ℕ) → first-fail (blockChecks b) ≡ some k → r ≡ upper k → Wrote-into r out b
+  into-refused k r h p =
+      let w = on-refused b (λ (t : MBR). writeSays t x (length out)) (writtenOn b x (length out)) k h in
+      (p ∙ sym (ap packed (w .0)), (sym (ap (λ (s : Said MBR). outputOf s x out) (block-refused b k h)), (w .1, after-refused b (λ (t : MBR). writeTable t x (length out)) k h)))
+
+  pub into-done : (r : ℕ) (o c : List ℕ) (h : first-fail (blockChecks b) ≡ none) → Wrote b x out h r o c → Wrote-into r o c
+  into-done r o c h v =
+      let w = on-done b c (λ (t : MBR). writeSays t x (length out)) (writtenOn b x (length out)) h (v .1 .1 .0) in
+      (v .0 ∙ sym (ap packed (w .0)), (v .1 .0 ∙ sym (ap (λ (s : Said MBR). outputOf s x out) (block-done b (tableIn b) h refl)), (w .1, after-done b c c (λ (t : MBR). writeTable t x (length out)) h refl (v .1 .1 .1))))

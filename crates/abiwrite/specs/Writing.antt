@@ -1,16 +1,15 @@
--- Writing a table that is handed in as a block; the table as writing leaves it is answered as a second block. Assumes nothing.
+-- Writing a table that is handed in as a block; it is left in it as writing leaves it. Assumes nothing.
 use Prim.Native.Nat.{ℕ}
-use mathlib.Core.List.{List, [], _∷_}
-use lib.Dec.{eqb}
+use mathlib.Core.List.{List}
+use mathlib.Core.Option.{Option, none, some}
+use Rattle.base.specs.Put.{put}
 use Rattle.base.specs.Said.{Said, gives, refuses, andThen}
-use Rattle.base.specs.Checks.{_!_, answer}
+use Rattle.entry.specs.declared.MBRPartitionEntry.{MBRPartitionEntry}
 use Rattle.table.specs.declared.MBR.{MBR}
-use Rattle.block.specs.Block.{blockLength, blockBytes}
-use Rattle.write.specs.Answers.{writeSays, writeTable, writeLeaves}
-
--- the table to write, if the bytes lent for the one after it are a block too: 101
-abbrev pub withRoom : Said MBR → ℕ → Said MBR
-withRoom s room = andThen s (λ t. answer ((101 ! eqb room blockLength) ∷ []) t)
+use Rattle.table.specs.Table.{extendedIn}
+use Rattle.block.specs.Block.{slotsPart}
+use Rattle.settle.specs.Settle.{settledIn}
+use Rattle.write.specs.Answers.{writeSays, writeLeaves}
 
 -- the length of the new extract, or a refusal: the table's, then writing's
 abbrev pub lengthOf : Said MBR → List ℕ → ℕ → Said ℕ
@@ -21,12 +20,11 @@ abbrev pub outputOf : Said MBR → List ℕ → List ℕ → List ℕ
 outputOf (refuses k) x out = out
 outputOf (gives t) x out = writeLeaves t x out
 
--- the second block, by what writing says: a refusal leaves it as it was
-abbrev pub blockBy : Said ℕ → MBR → List ℕ → List ℕ
-blockBy (refuses k) u after = after
-blockBy (gives n) u after = blockBytes u
+-- the slots of the table t in a block, as writing leaves them; as before without an extended entry
+abbrev pub leftIn : Option MBRPartitionEntry → List ℕ → MBR → List ℕ
+leftIn none b t = b
+leftIn (some e) b t = put b 540 (slotsPart (settledIn t (e .«starting_lba»)))
 
--- the second block after writing: the table as writing leaves it
-abbrev pub afterOf : Said MBR → List ℕ → ℕ → List ℕ → List ℕ
-afterOf (refuses k) x room after = after
-afterOf (gives t) x room after = blockBy (writeSays t x room) (writeTable t x room) after
+-- the block after writing, or a refusal
+abbrev pub writtenOn : List ℕ → List ℕ → ℕ → MBR → Said (List ℕ)
+writtenOn b x room t = andThen (writeSays t x room) (λ _. gives (leftIn (extendedIn t) b t))

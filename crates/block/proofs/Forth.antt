@@ -73,7 +73,7 @@ kept-forth : (x : List ℕ) → length x ≤ 446 → keptOf x .«bootstrap_code�
 unfolding keptOf
 kept-forth x h = take-all 446 x h
 
-part-long : (b : List ℕ) (at n : ℕ) → at + n ≤ length b → length (part b at n) ≡ n
+pub part-long : (b : List ℕ) (at n : ℕ) → at + n ≤ length b → length (part b at n) ≡ n
 unfolding part
 part-long b at n h =
     let l : n ≤ length (drop at b) = omega (arith, length-drop at b) in
@@ -131,7 +131,7 @@ header-forth s b n =
     parts-join s (x₃ ++ (e₁ ++ e₂ ++ e₃ ++ e₄)) (bytesAt s 518 2) 518 2 520 y₄ (there 518 2 (omega arith)) refl ∙ take-all 520 s (omega (arith, n))
 
 -- each slot is tagged
-tagged-at : (b : List ℕ) (i n k : ℕ) → tagged b i n ≡ true → k < n → slotTagged (slotAt b (i + k)) ≡ true
+pub tagged-at : (b : List ℕ) (i n k : ℕ) → tagged b i n ≡ true → k < n → slotTagged (slotAt b (i + k)) ≡ true
 unfolding tagged
 tagged-at b i zero k t h = absurd (omega arith)
 tagged-at b i (suc n) zero t h = ap (λ (j : ℕ). slotTagged (slotAt b j)) (add-zero i) ∙ both (slotTagged (slotAt b i)) (tagged b (suc i) n) t .0

@@ -32,8 +32,6 @@ use Rattle.sort.proofs.Laws.{sort-length}
 use Rattle.free.specs.declared.FreeAnswer.{FreeAnswer}
 use Rattle.free.specs.declared.Points.{Points}
 use Rattle.free.specs.declared.Gap.{Gap}
-use Rattle.free.specs.declared.Gap.the-variants.{Nothing, Free, Refused}
-use Rattle.free.proofs.Gap.{the-type}
 use denote.Enum.Declared.{tagOf}
 use types.Run.{OneOf}
 use Rattle.free.specs.Free.{run, u32, every, zone, primaryZones, logicalZones, ends, whole, positions, pairs, apart, kept, up, rounded, inRange, found, area, joined, inner, outer, free, listed, runsIn, view, more, closed, gapSaid, between, within, begin, freeIn, freeSaid, Below, Ended, Usable, Told}
@@ -51,22 +49,6 @@ module _ (b : Bool) (ps : List ℕ) where
       go true e = rw e
       go false e = refl
 
-  pub more-none : held b ps ≡ more (held b ps) []
-  unfolding every ends
-  more-none = go b
-    where
-      go : (c : Bool) → held c ps ≡ more (held c ps) []
-      go true = rw append-nil
-      go false = refl
-
-  pub more-out : (z : Run) → whole z ≡ false → refuses 7 ≡ more (held b ps) (z ∷ [])
-  unfolding every
-  more-out z h = go b
-    where
-      go : (c : Bool) → refuses 7 ≡ more (held c ps) (z ∷ [])
-      go true = rw h
-      go false = refl
-
 -- a step in range
 module _ (b : Bool) (at : List ℕ) (n : ℕ) where
   pub closed-near : (end : ℕ) → n < length at → end < u32 → held b (take (n + 1) (set at n end)) ≡ closed (held b (take n at)) end
@@ -76,24 +58,57 @@ module _ (b : Bool) (at : List ℕ) (n : ℕ) where
       go true e = rw (e, add-one n, take-suc-set at n end h)
       go false e = refl
 
-  pub more-in : (z : Run) → n + 1 < length at → whole z ≡ true
-      → held b (take (n + 2) (set (set at n (z .start)) (n + 1) (z .start + z .length - 1))) ≡ more (held b (take n at)) (z ∷ [])
-  unfolding every ends
-  more-in z h w = go b
+-- positions, with those of an entry or none
+more-by : (v : Said (List ℕ)) (zs : List Run) (x : Said (List ℕ)) → x ≡ more (gives []) zs → andThen v (λ (ps : List ℕ). andThen x (λ (es : List ℕ). gives (ps ++ es))) ≡ more v zs
+more-by (refuses k) zs x e = refl
+more-by (gives ps) zs x e = ap (λ (y : Said (List ℕ)). andThen y (λ (es : List ℕ). gives (ps ++ es))) e ∙ go (every whole zs)
+  where
+    go : (b : Bool) → andThen (pick b (gives (ends zs)) (refuses 7)) (λ (es : List ℕ). gives (ps ++ es)) ≡ pick b (gives (ps ++ ends zs)) (refuses 7)
+    go true = refl
+    go false = refl
+
+module _ (b : Bool) (at : List ℕ) (n : ℕ) (zs : List Run) where
+  pub none-more : gives [] ≡ more (gives []) zs → held b (take n at) ≡ more (held b (take n at)) zs
+  none-more e = go b ∙ more-by (held b (take n at)) zs (gives []) e
     where
-      two : take (n + 2) (set (set at n (z .start)) (n + 1) (z .start + z .length - 1)) ≡ take n at ++ (z .start ∷ (z .start + z .length - 1) ∷ [])
-      two =
-          let x = z .start in
-          let y = z .start + z .length - 1 in
+      go : (c : Bool) → held c (take n at) ≡ andThen (held c (take n at)) (λ (ps : List ℕ). gives (ps ++ []))
+      go true = ap gives (sym (append-nil (take n at)))
+      go false = refl
+
+  pub out-more : refuses 7 ≡ more (gives []) zs → refuses 7 ≡ more (held b (take n at)) zs
+  out-more e = go b ∙ more-by (held b (take n at)) zs x e
+    where
+      x : Said (List ℕ)
+      x = refuses 7
+
+      go : (c : Bool) → x ≡ andThen (held c (take n at)) (λ (ps : List ℕ). x)
+      go true = refl
+      go false = refl
+
+  pub two-more : (x y : ℕ) → n + 1 < length at → gives (x ∷ y ∷ []) ≡ more (gives []) zs
+      → held b (take (n + 2) (set (set at n x) (n + 1) y)) ≡ more (held b (take n at)) zs
+  two-more x y h e = go b ∙ more-by (held b (take n at)) zs (gives (x ∷ y ∷ [])) e
+    where
+      both : take (n + 2) (set (set at n x) (n + 1) y) ≡ take n at ++ (x ∷ y ∷ [])
+      both =
           let l = set at n x in
           let k : n + 1 < length l = rw length-set h in
           let i : n + 2 ≡ suc (n + 1) = omega arith in
-          let e : take (n + 1) l ≡ take n at ++ (x ∷ []) = ap (λ (j : ℕ). take j l) (add-one n) ∙ take-suc-set at n x (omega arith) in
-          ap (λ (j : ℕ). take j (set l (n + 1) y)) i ∙ take-suc-set l (n + 1) y k ∙ ap (λ (m : List ℕ). m ++ (y ∷ [])) e ∙ append-assoc (take n at) (x ∷ []) (y ∷ [])
+          let f : take (n + 1) l ≡ take n at ++ (x ∷ []) = ap (λ (j : ℕ). take j l) (add-one n) ∙ take-suc-set at n x (omega arith) in
+          ap (λ (j : ℕ). take j (set l (n + 1) y)) i ∙ take-suc-set l (n + 1) y k ∙ ap (λ (m : List ℕ). m ++ (y ∷ [])) f ∙ append-assoc (take n at) (x ∷ []) (y ∷ [])
 
-      go : (c : Bool) → held c (take (n + 2) (set (set at n (z .start)) (n + 1) (z .start + z .length - 1))) ≡ more (held c (take n at)) (z ∷ [])
-      go true = rw (w, two)
+      go : (c : Bool) → held c (take (n + 2) (set (set at n x) (n + 1) y)) ≡ andThen (held c (take n at)) (λ (ps : List ℕ). gives (ps ++ (x ∷ y ∷ [])))
+      go true = ap gives both
       go false = refl
+
+-- the positions of a used entry
+pub zone-out : (z : Run) → whole z ≡ false → refuses 7 ≡ more (gives []) (z ∷ [])
+unfolding every
+zone-out z h = rw h
+
+pub zone-two : (z : Run) → whole z ≡ true → gives (z .start ∷ (z .start + z .length - 1) ∷ []) ≡ more (gives []) (z ∷ [])
+unfolding every ends
+zone-two z h = rw h
 
 -- start + sectors against its two bounds
 pub whole-zero : (z : Run) → z .start + z .length ≡ 0 → whole z ≡ false
@@ -144,17 +159,6 @@ module _ (align a : ℕ) (h : 0 < align) where
           let y : b - a - 1 - (p - (a + 1)) ≡ b - p = omega (arith, step-in) in
           rw (lt-ltb a b k, lt-ltb 0 (b - a - 1) (omega arith), up-step (b - a - 1), lt-ltb p u32 f, lt-ltb 0 (b - a - 1 - (p - (a + 1))) (omega (arith, step-in)), x, y)
 
--- which variants an arm leaves
-pub not-refused : (g : Gap) → OneOf (0 ∷ 1 ∷ []) (tagOf the-type g) → failure (gapSaid g) ≡ none
-not-refused Nothing h = refl
-not-refused (Free r) h = refl
-not-refused Refused h = absurd (⊎-elim (λ (e : _≡_ {A = ℕ} 2 0). omega arith) (λ (e : _≡_ {A = ℕ} 2 1). omega arith) h)
-
-pub not-free : (g : Gap) → OneOf (0 ∷ 2 ∷ []) (tagOf the-type g) → valueOr [] (gapSaid g) ≡ []
-not-free Nothing h = refl
-not-free Refused h = refl
-not-free (Free r) h = absurd (⊎-elim (λ (e : _≡_ {A = ℕ} 1 0). omega arith) (λ (e : _≡_ {A = ℕ} 1 2). omega arith) h)
-
 -- the list of runs as it travels
 pub runs-listed : (rs : List Run) → runsIn (listed rs) ≡ rs
 unfolding listed
@@ -166,9 +170,6 @@ listed-again rs x e = e ∙ ap listed (sym (ap runsIn e ∙ runs-listed rs))
 pub listed-none : (x : Runs) → x ≡ listed [] → x .count ≡ 0
 unfolding listed
 listed-none x e = ap (λ (y : Runs). y .count) e
-
-pub listed-same : (x : Runs) → x ≡ listed (runsIn x) → x ≡ listed (runsIn x ++ [])
-listed-same x e = rw (append-nil (runsIn x)) e
 
 spare : (n : ℕ) → n < 30 → replicate (30 - n) (run 0 0) ≡ run 0 0 ∷ replicate (30 - suc n) (run 0 0)
 spare n h =
@@ -276,12 +277,6 @@ told-same r v w e t = rw (← e) t
 pub told-empty : (r : FreeAnswer) (k : ℕ) → Told r (refuses k) → r .runs .count ≡ 0
 unfolding listed
 told-empty r k t = ap (λ (x : Runs). x .count) (t .1)
-
--- the variant that an arm leaves
-pub is-refused : (g : Gap) → OneOf (2 ∷ []) (tagOf the-type g) → gapSaid g ≡ refuses 7
-is-refused Nothing h = let z : _≡_ {A = ℕ} 0 2 = h in absurd (omega arith)
-is-refused (Free r) h = let z : _≡_ {A = ℕ} 1 2 = h in absurd (omega arith)
-is-refused Refused h = refl
 
 -- positions, collected one after the other
 every-append : (f : Run → Bool) (xs ys : List Run) → every f (xs ++ ys) ≡ every f xs && every f ys

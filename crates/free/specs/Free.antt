@@ -22,6 +22,8 @@ use Rattle.free.specs.declared.Runs.{Runs}
 use Rattle.free.specs.declared.FreeAnswer.{FreeAnswer}
 use Rattle.free.specs.declared.Points.{Points}
 use Rattle.free.specs.declared.Gap.{Gap}
+use Rattle.free.specs.declared.Ends.{Ends}
+use Rattle.free.specs.declared.Ends.the-variants.{Nothing as NoEnds, Two, Refused as OutOfRange}
 use Rattle.free.specs.declared.Gap.the-variants.{Nothing, Free, Refused}
 
 abbrev pub run : ℕ → ℕ → Run
@@ -149,6 +151,12 @@ abbrev pub gapSaid : Gap → Said (List Run)
 gapSaid Nothing = gives []
 gapSaid (Free r) = gives (r ∷ [])
 gapSaid Refused = refuses 7
+
+-- the positions of an entry
+abbrev pub endsSaid : Ends → Said (List ℕ)
+endsSaid NoEnds = gives []
+endsSaid (Two first last) = gives (first ∷ last ∷ [])
+endsSaid OutOfRange = refuses 7
 
 -- where the extended area begins
 abbrev pub begin : Option MBRPartitionEntry → ℕ

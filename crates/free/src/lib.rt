@@ -13,7 +13,7 @@ ghost use lib.ListN.{length, take};
 ghost use Rattle.base.specs.Said.{gives, refuses, valueOr};
 ghost use Rattle.mbr.specs.Mbr.{primaries, found as entryFound};
 ghost use Rattle.table.specs.Table.{most};
-ghost use Rattle.free.specs.Free.{u32, zone, primaryZones, logicalZones, found, joined, free, listed, runsIn, view, more, closed, gapSaid, begin, between, positions, freeIn, mostRuns, Told};
+ghost use Rattle.free.specs.Free.{u32, zone, primaryZones, logicalZones, found, joined, free, listed, runsIn, view, more, closed, gapSaid, endsSaid, begin, between, positions, freeIn, mostRuns, Told};
 
 pub struct Run {
     pub start: u32,
@@ -40,6 +40,13 @@ pub enum Gap {
     Refused,
 }
 
+// The positions of an entry.
+pub enum Ends {
+    Nothing,
+    Two(u32, u32),
+    Refused,
+}
+
 // The most positions of an area: its two bounds, and two for each of 24 partitions.
 pub const POINTS: usize = 50;
 
@@ -54,6 +61,24 @@ fn wide(x: u32) -> u64
     ensures { λ r. ⌜ (r ≡ x) × (r < u32) ⌝ }
 {
     x as u64
+}
+
+// The first and the last sector of an entry, if it is used; its start is counted from `place`.
+pub fn ends_of(place: u32, e: MBRPartitionEntry) -> Ends
+    ensures { λ r. ⌜ endsSaid r ≡ more (gives []) (zone place e) ⌝ }
+{
+    if e.sys == 0 {
+        return Ends::Nothing;
+    }
+    let start = wide(place) + wide(e.starting_lba);
+    let sum = start + wide(e.sectors);
+    if sum == 0 {
+        return Ends::Refused;
+    }
+    if 0xFFFFFFFF < sum {
+        return Ends::Refused;
+    }
+    Ends::Two(start as u32, (sum - 1) as u32)
 }
 
 impl Points {
@@ -74,24 +99,20 @@ impl Points {
         requires { ⌜ self .count + 2 ≤ 50 ⌝ }
         ensures { λ r. ⌜ (view r ≡ more (view self) (zone place e)) × (r .count ≤ self .count + 2) ⌝ }
     {
-        if e.sys == 0 {
-            return self;
-        }
-        let start = wide(place) + wide(e.starting_lba);
-        let sum = start + wide(e.sectors);
         let n = self.count;
         let mut next = self;
-        if sum == 0 {
-            next.fits = false;
-            return next;
+        match ends_of(place, e) {
+            Ends::Nothing => return next,
+            Ends::Refused => {
+                next.fits = false;
+                return next;
+            }
+            Ends::Two(first, last) => {
+                next.at[n] = first;
+                next.at[n + 1] = last;
+                next.count = n + 2;
+            }
         }
-        if 0xFFFFFFFF < sum {
-            next.fits = false;
-            return next;
-        }
-        next.at[n] = start as u32;
-        next.at[n + 1] = (sum - 1) as u32;
-        next.count = n + 2;
         next
     }
 
@@ -123,24 +144,9 @@ impl Runs {
         let at = [none; RUNS];
         Runs { at: at, count: 0 }
     }
-
-    // With what lies between two positions.
-    pub fn with(self, g: Gap) -> Runs
-        requires { ⌜ (self ≡ listed (runsIn self)) × (self .count < 30) ⌝ }
-        ensures { λ r. ⌜ (r ≡ listed (runsIn self ++ valueOr [] (gapSaid g))) × (r .count ≤ self .count + 1) ⌝ }
-    {
-        let Gap::Free(r) = g else {
-            return self;
-        };
-        let n = self.count;
-        let mut next = self;
-        next.at[n] = r;
-        next.count = n + 1;
-        next
-    }
 }
 
-fn refused(k: u8) -> FreeAnswer
+pub fn refused(k: u8) -> FreeAnswer
     ensures { λ r. ⌜ Told r (refuses k) ⌝ }
 {
     FreeAnswer {
@@ -183,11 +189,16 @@ fn collect(ps: &[u32], align: u32, x: Runs) -> FreeAnswer
     let mut i = 0;
     while i + 1 < ps.len() {
         let g = gap_of(ps[i], ps[i + 1], align);
-        if let Gap::Refused = g {
-            return refused(7);
-        }
-        runs = runs.with(g);
         i += 2;
+        match g {
+            Gap::Refused => return refused(7),
+            Gap::Nothing => continue,
+            Gap::Free(r) => {
+                let n = runs.count;
+                runs.at[n] = r;
+                runs.count = n + 1;
+            }
+        }
     }
     FreeAnswer {
         answer: Answer::Done,
@@ -210,7 +221,7 @@ fn search_area(p: Points, align: u32, x: Runs) -> FreeAnswer
 }
 
 // The positions of four primary partitions.
-fn primary_points(
+pub fn primary_points(
     one: MBRPartitionEntry,
     two: MBRPartitionEntry,
     three: MBRPartitionEntry,
@@ -242,7 +253,7 @@ fn logical_points(first: u32, ls: [LogicalPartition; LOGICALS], count: usize) ->
 }
 
 // Where the extended area begins; 0 if there is none.
-fn begin_of(f: Found) -> u32
+pub fn begin_of(f: Found) -> u32
     ensures { λ r. ⌜ r ≡ begin (entryFound f) ⌝ }
 {
     match f {
@@ -252,7 +263,7 @@ fn begin_of(f: Found) -> u32
 }
 
 // The free runs between the positions of the primaries, then those of the extended area, of which q has all positions but the last.
-fn free_in(align: u32, p: Points, found: Found, q: Points) -> FreeAnswer
+pub fn free_in(align: u32, p: Points, found: Found, q: Points) -> FreeAnswer
     requires { ⌜ (0 < align) × ((p .count ≤ 10) × (q .count < 50)) ⌝ }
     ensures { λ r. ⌜ Told r (freeIn align (view p) (entryFound found) (view q)) × (r .runs .count ≤ mostRuns) ⌝ }
 {

@@ -27,24 +27,24 @@ pub enum Hit {
     Refused(u8),
 }
 
-// Does an entry hold a sector? The end is formed only if the entry is used and starts at or before it: 7.
-fn is_within(sector: u32, e: MBRPartitionEntry) -> Holds
+// Does an entry hold a sector? Its end counts only if the entry is used and starts at or before it: 7.
+pub fn is_within(sector: u32, e: MBRPartitionEntry) -> Holds
     ensures { λ r. ⌜ holdsSaid r ≡ holdsSays sector e ⌝ }
 {
-    if e.sys == 0 {
-        return Holds::No;
-    }
     if sector < e.starting_lba {
         return Holds::No;
     }
     let end = e.starting_lba as u64 + e.sectors as u64;
+    if end <= sector as u64 {
+        return Holds::No;
+    }
+    if e.sys == 0 {
+        return Holds::No;
+    }
     if 4294967296 <= end {
         return Holds::Refused(7);
     }
-    if (sector as u64) < end {
-        return Holds::Yes;
-    }
-    Holds::No
+    Holds::Yes
 }
 
 // A search goes on to one more entry; a hit or a refusal stays.

@@ -22,17 +22,21 @@ fn get_slots(b: &[u8]) -> [LogicalPartition; LOGICALS]
     ls
 }
 
-// Are all tags 0 or 1?
+// Are all tags 0 or 1? The first tags are laid over each other, and so are the second ones.
 pub fn all_tagged(b: &[u8]) -> bool
     requires { ⌜ length (now b) ≡ 12108 ⌝ }
     ensures { λ r. ⌜ r ≡ tagged (now (b .entry)) 0 24 ⌝ }
 {
+    let mut one: u8 = 0;
+    let mut two: u8 = 0;
     for i in 0..LOGICALS {
-        if !slotread::slot_tagged(slotread::part_of(b, 540 + 482 * i, 482)) {
-            return false;
-        }
+        one = one | b[562 + 482 * i];
+        two = two | b[571 + 482 * i];
     }
-    true
+    if 1 < one {
+        return false;
+    }
+    two <= 1
 }
 
 // The header in its 520 bytes.

@@ -74,7 +74,7 @@ fn spot_in(x: Runs, rule: Rule, size: u32) -> Spot
 }
 
 // The start of the run that the rule takes.
-fn start_by(f: FreeAnswer, rule: Rule, size: u32) -> Place
+pub fn start_by(f: FreeAnswer, rule: Rule, size: u32) -> Place
     requires { ⌜ f .runs .count ≤ mostRuns ⌝ }
     ensures { λ r. ⌜ placeSaid r ≡ startBy rule size (freeSaid f) ⌝ }
 {
@@ -102,7 +102,7 @@ pub fn find_optimal_place(t: MBR, size: u32) -> Place
 }
 
 // As far right as possible in the last run that is long enough.
-fn last_by(f: FreeAnswer, align: u32, size: u32) -> Place
+pub fn last_by(f: FreeAnswer, align: u32, size: u32) -> Place
     requires { ⌜ (f .runs .count ≤ mostRuns) × Usable align (freeSaid f) ⌝ }
     ensures { λ r. ⌜ placeSaid r ≡ lastBy align size (freeSaid f) ⌝ }
 {
@@ -143,7 +143,7 @@ fn largest_in(x: Runs, align: u32) -> u32
     most
 }
 
-fn size_by(f: FreeAnswer, align: u32) -> Size
+pub fn size_by(f: FreeAnswer, align: u32) -> Size
     requires { ⌜ (f .runs .count ≤ mostRuns) × Usable align (freeSaid f) ⌝ }
     ensures { λ r. ⌜ sizeSaid r ≡ sizeBy align (freeSaid f) ⌝ }
 {
@@ -200,7 +200,7 @@ fn grown(e: MBRPartitionEntry, x: Runs) -> Size
 }
 
 // The size to which a partition that was looked up can grow.
-fn grown_by(f: FreeAnswer, g: Got) -> Size
+pub fn grown_by(f: FreeAnswer, g: Got) -> Size
     requires { ⌜ f .runs .count ≤ mostRuns ⌝ }
     ensures { λ r. ⌜ sizeSaid r ≡ growth (gotSaid g) (freeSaid f) ⌝ }
 {

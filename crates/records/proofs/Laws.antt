@@ -9,15 +9,16 @@ use native.Mathlib.Numerals.{add-one}
 use native.Mathlib.Nat.{add-zero}
 use native.Mathlib.Omega.{arith}
 use lib.Dec.{eqb, ltb}
-use lib.ListN.{length, take, drop, getD, length-append, length-map, drop-of-length-le}
-use lib.Seq.{drop-cons, drop-length, take-suc}
+use lib.ListN.{length, take, drop, getD, length-append, length-map, length-take, length-drop, drop-of-length-le}
+use lib.Seq.{drop-cons, drop-length}
 use borrow.Author.Tests.{lt-ltb, le-ltb}
 use Rattle.base.specs.Pick.{pick}
 use Rattle.base.specs.Put.{put}
 use Rattle.base.specs.Row.{next}
 use Rattle.entry.specs.declared.MBRPartitionEntry.{MBRPartitionEntry}
 use Rattle.ebr.specs.declared.EBRHeader.{EBRHeader}
-use Rattle.ebr.specs.Ebr.{ebrBytes}
+use Rattle.ebr.specs.Ebr.{ebrBytes, keptOf}
+use Rattle.ebr.specs.declared.Kept.{Kept}
 use Rattle.mbr.specs.declared.MBRHeader.{MBRHeader}
 use Rattle.mbr.specs.Mbr.{mbrBytes}
 use Rattle.entry.specs.Entry.{noEntry}
@@ -31,12 +32,15 @@ use Rattle.plan.specs.declared.Slot.{Slot}
 use Rattle.plan.specs.Plan.{noSlot, slotsFrom, slotOver, slotsOver, storeOf, pieces, lbaOf, Each}
 use Rattle.plan.proofs.Laws.{over-map, old-map, lbas-map, records-map, length-pieces, lbas-wide, Wide, all-each, each-at}
 use Rattle.table.specs.declared.LogicalPartition.{LogicalPartition}
-use Rattle.table.specs.declared.MBR.{MBR}
 use Rattle.table.specs.Table.{noLogical}
+use Rattle.block.specs.Block.{part, slotOf, slotAt, tableIn}
+use Rattle.block.proofs.Inside.{slot-in}
+use Rattle.settle.specs.Settle.{Held, settledIn}
+use Rattle.settle.proofs.Laws.{settled-long, held-long, held-kept}
 use Rattle.chain.specs.Facts.{at, bodyOf, leads}
 use Rattle.links.specs.Links.{linkEntry, ebrFor, ebrWith, write}
 use Rattle.records.specs.Records.{ebrStores, laidAll, extractOver}
-use Rattle.records.specs.Sources.{storeAt, bytesFrom, placesFrom, firstOf, storesOf, slotsOf, CodeLong, Valid, Writing}
+use Rattle.records.specs.Sources.{storeAt, bytesFrom, placesFrom, storesOf, slotsOf, CodeLong, Valid, Writing}
 
 -- slots laid over, and their records
 pub all-map : (f : ℕ → List ℕ) (ss ts : List Slot) → map (storeOf f) (slotsOver ss ts) ≡ laidAll (map (storeOf f) ss) (map (storeOf f) ts)
@@ -144,36 +148,36 @@ from-ebr x s ss k i e =
     rw (le-ltb k 64 (omega arith), z)
 
 -- the plan stands for the new records
-module _ (x : List ℕ) (n m : ℕ) (first : List ℕ) (t : MBR) (e : MBRPartitionEntry) (w : Writing x n m first) (c : Each CodeLong (firstOf t m)) where
+module _ (x : List ℕ) (n m : ℕ) (first : List ℕ) (ls : List LogicalPartition) (e : MBRPartitionEntry) (w : Writing x n m first) (c : Each CodeLong ls) where
   abbrev ss : List Store
-  ss = storesOf first e t m
+  ss = storesOf first e ls
 
   abbrev f : ℕ → List ℕ
   f = bytesFrom x ss
 
-  pub plan-records : map (storeOf f) (slotsOf x t m) ≡ laidAll ss (records x)
+  pub plan-records : map (storeOf f) (slotsOf x ls) ≡ laidAll ss (records x)
   plan-records =
       let few = good-few x (w .good) in
-      let q = places-map f e 65 (firstOf t m) (λ i p. from-ebr x (record { lba = 0; bytes = first }) (ebrStores e (firstOf t m)) (65 + i) i refl) in
+      let q = places-map f e 65 ls (λ i p. from-ebr x (record { lba = 0; bytes = first }) (ebrStores e ls) (65 + i) i refl) in
       let r = old-map f x 0 (count x) (λ j p. from-old x ss j (omega arith)) in
-      all-map f (record { lba = 0; source = 64 } ∷ placesFrom 65 (firstOf t m)) (slotsFrom x 0 (count x))
+      all-map f (record { lba = 0; source = 64 } ∷ placesFrom 65 ls) (slotsFrom x 0 (count x))
       ∙ ap (λ (l : List Store). laidAll (record { lba = 0; bytes = f 64 } ∷ l) (map (storeOf f) (slotsFrom x 0 (count x)))) q
-      ∙ ap (λ (b : List ℕ). laidAll (record { lba = 0; bytes = b } ∷ ebrStores e (firstOf t m)) (map (storeOf f) (slotsFrom x 0 (count x)))) (from-first x (record { lba = 0; bytes = first }) (ebrStores e (firstOf t m)))
+      ∙ ap (λ (b : List ℕ). laidAll (record { lba = 0; bytes = b } ∷ ebrStores e ls) (map (storeOf f) (slotsFrom x 0 (count x)))) (from-first x (record { lba = 0; bytes = first }) (ebrStores e ls))
       ∙ ap (laidAll ss) r
 
-  pub plan-wide : Wide (λ s. f (s .source)) 512 (slotsOf x t m)
-  plan-wide = down (slotsOf x t m) (subst (Each Long) (sym plan-records) (all-long ss (records x) (w .long, stores-long e (firstOf t m) c) (records-long x (w .good) 0 (count x) (omega arith))))
+  pub plan-wide : Wide (λ s. f (s .source)) 512 (slotsOf x ls)
+  plan-wide = down (slotsOf x ls) (subst (Each Long) (sym plan-records) (all-long ss (records x) (w .long, stores-long e ls c) (records-long x (w .good) 0 (count x) (omega arith))))
     where
       down : (ts : List Slot) → Each Long (map (storeOf f) ts) → Wide (λ s. f (s .source)) 512 ts
       down [] h = tt
       down (s ∷ ts) h = (h .0, down ts (h .1))
 
   -- each source is there
-  plan-valid : length (firstOf t m) ≡ m → Each (λ s. Valid n m (s .source)) (slotsOf x t m)
+  plan-valid : length ls ≡ m → Each (λ s. Valid n m (s .source)) (slotsOf x ls)
   unfolding slotsFrom placesFrom
   plan-valid l =
-      all-each (λ s. Valid n m (s .source)) (record { lba = 0; source = 64 } ∷ placesFrom 65 (firstOf t m)) (slotsFrom x 0 (count x))
-      (inr (omega arith, omega arith), places 65 (firstOf t m) (omega arith) (omega arith)) (olds 0 (count x) (omega (arith, w .number)))
+      all-each (λ s. Valid n m (s .source)) (record { lba = 0; source = 64 } ∷ placesFrom 65 ls) (slotsFrom x 0 (count x))
+      (inr (omega arith, omega arith), places 65 ls (omega arith) (omega arith)) (olds 0 (count x) (omega (arith, w .number)))
     where
       places : (k : ℕ) (ls : List LogicalPartition) → 64 ≤ k → k + length ls ≤ 65 + m → Each (λ s. Valid n m (s .source)) (placesFrom k ls)
       places k [] p q = tt
@@ -183,45 +187,55 @@ module _ (x : List ℕ) (n m : ℕ) (first : List ℕ) (t : MBR) (e : MBRPartiti
       olds i zero p = tt
       olds i (suc k) p = (inl (omega arith), olds (i + 1) k (omega arith))
 
-  pub source-valid : length (firstOf t m) ≡ m → (i : ℕ) → i < length (slotsOf x t m) → Valid n m (getD (slotsOf x t m) i noSlot .source)
-  source-valid l i h = each-at (λ s. Valid n m (s .source)) (slotsOf x t m) i noSlot h (plan-valid l)
+  pub source-valid : length ls ≡ m → (i : ℕ) → i < length (slotsOf x ls) → Valid n m (getD (slotsOf x ls) i noSlot .source)
+  source-valid l i h = each-at (λ s. Valid n m (s .source)) (slotsOf x ls) i noSlot h (plan-valid l)
 
   -- the new extract from its parts
-  pub extract-parts : extractOver x ss ≡ headerBytes (sectorSize x) (diskSectors x) (length (slotsOf x t m)) ++ pieces lbaOf (slotsOf x t m) ++ pieces (λ s. f (s .source)) (slotsOf x t m)
+  pub extract-parts : extractOver x ss ≡ headerBytes (sectorSize x) (diskSectors x) (length (slotsOf x ls)) ++ pieces lbaOf (slotsOf x ls) ++ pieces (λ s. f (s .source)) (slotsOf x ls)
   unfolding extractOver extractBytes
   extract-parts =
-      let l = slotsOf x t m in
+      let l = slotsOf x ls in
       ap (λ (r : List Store). extractBytes (sectorSize x) (diskSectors x) r) (sym plan-records)
       ∙ ap (λ k. headerBytes (sectorSize x) (diskSectors x) k ++ lbaBytes (map (storeOf f) l) ++ recordBytes (map (storeOf f) l)) (length-map l (storeOf f))
       ∙ ap (λ k. headerBytes (sectorSize x) (diskSectors x) (length l) ++ k ++ recordBytes (map (storeOf f) l)) (lbas-map f l)
       ∙ ap (λ k. headerBytes (sectorSize x) (diskSectors x) (length l) ++ pieces lbaOf l ++ k) (records-map f l)
 
-  pub extract-count : length (laidAll ss (records x)) ≡ length (slotsOf x t m)
-  extract-count = ap length (sym plan-records) ∙ length-map (slotsOf x t m) (storeOf f)
+  pub extract-count : length (laidAll ss (records x)) ≡ length (slotsOf x ls)
+  extract-count = ap length (sym plan-records) ∙ length-map (slotsOf x ls) (storeOf f)
 
-  pub extract-long : length (extractOver x ss) ≡ 24 + length (slotsOf x t m) * 516
+  pub extract-long : length (extractOver x ss) ≡ 24 + length (slotsOf x ls) * 516
   extract-long =
-      let l = slotsOf x t m in
+      let l = slotsOf x ls in
       let h = headerBytes (sectorSize x) (diskSectors x) (length l) in
       ap length extract-parts
       ∙ length-append (h ++ pieces lbaOf l) (pieces (λ s. f (s .source)) l)
       ∙ omega (arith, length-append h (pieces lbaOf l), length-header (sectorSize x) (diskSectors x) (length l), length-pieces lbaOf 4 l (lbas-wide l), length-pieces (λ s. f (s .source)) 512 l plan-wide)
 
--- logical partitions passed one by one
-pub codes-more : (l : List LogicalPartition) (i : ℕ) → i < length l → Each CodeLong (take i l) → CodeLong (getD l i noLogical) → Each CodeLong (take (i + 1) l)
-codes-more l i h e k = rw (add-one i, take-suc l i noLogical h) (snoc (take i l) e)
+-- the code of each logical partition of a block
+each-by : (l : List LogicalPartition) → ((i : ℕ) → i < length l → CodeLong (getD l i noLogical)) → Each CodeLong l
+each-by [] f = tt
+each-by (a ∷ l) f = (f 0 (omega arith), each-by l (λ i h. f (suc i) (omega arith)))
+
+slot-code : (b : List ℕ) (i : ℕ) → length b ≡ 12108 → i < 24 → CodeLong (slotOf (slotAt b i))
+unfolding part keptOf
+slot-code b i h k = simp (length-take, length-drop) (omega arith)
+
+pub codes-held : (b : List ℕ) (h : Held b) (x : ℕ) → Each CodeLong (settledIn (tableIn b) x)
+codes-held b h x = each-by (settledIn (tableIn b) x) one
   where
-    snoc : (ls : List LogicalPartition) → Each CodeLong ls → Each CodeLong (ls ++ getD l i noLogical ∷ [])
-    snoc [] e = (k, tt)
-    snoc (a ∷ ls) e = (e .0, snoc ls (e .1))
+    one : (i : ℕ) → i < length (settledIn (tableIn b) x) → CodeLong (getD (settledIn (tableIn b) x) i noLogical)
+    one i k =
+        let j : i < tableIn b .count = omega (arith, settled-long (tableIn b) x (held-long b h)) in
+        let n : i < 24 = omega (arith, h .1) in
+        ap (λ (k : Kept). length (k .«bootstrap_code»)) (held-kept b h x i j ∙ ap (λ (l : LogicalPartition). l .kept) (slot-in b i n)) ∙ slot-code b i (h .0) n
 
 -- the plan's beginning, and a turn of its loop
-pub plan-start : (x : List ℕ) (t : MBR) (m n : ℕ) (p q : List Slot) → n ≡ count x → p ≡ slotsFrom x 0 n → q ≡ slotOver (record { lba = 0; source = 64 }) p
-    → slotsOf x t m ≡ slotsOver (placesFrom (65 + 0) (drop 0 (firstOf t m))) q
+pub plan-start : (x : List ℕ) (ls : List LogicalPartition) (n : ℕ) (p q : List Slot) → n ≡ count x → p ≡ slotsFrom x 0 n → q ≡ slotOver (record { lba = 0; source = 64 }) p
+    → slotsOf x ls ≡ slotsOver (placesFrom (65 + 0) (drop 0 ls)) q
 unfolding slotsOver
-plan-start x t m n p q e f g =
-    ap (λ (l : List Slot). slotsOver (placesFrom 65 (firstOf t m)) (slotOver (record { lba = 0; source = 64 }) l)) (ap (slotsFrom x 0) (sym e) ∙ sym f)
-    ∙ ap (slotsOver (placesFrom 65 (firstOf t m))) (sym g)
+plan-start x ls n p q e f g =
+    ap (λ (l : List Slot). slotsOver (placesFrom 65 ls) (slotOver (record { lba = 0; source = 64 }) l)) (ap (slotsFrom x 0) (sym e) ∙ sym f)
+    ∙ ap (slotsOver (placesFrom 65 ls)) (sym g)
 
 pub plan-turn : (ls : List LogicalPartition) (i b a : ℕ) (p q : List Slot) → i < length ls → at (getD ls i noLogical) ≡ b → a ≡ b → q ≡ slotOver (record { lba = a; source = 65 + i }) p
     → slotsOver (placesFrom (65 + i) (drop i ls)) p ≡ slotsOver (placesFrom (65 + (i + 1)) (drop (i + 1) ls)) q
@@ -284,8 +298,8 @@ ebr-bytes x s e ls k l link h i p q =
     ∙ ap (λ (a : LogicalPartition). write e a n .bytes) (sym p)
     ∙ sym (from-ebr x s (ebrStores e ls) k (k - 65) z ∙ store-at e ls (k - 65) i)
 
-pub valid-at : (x : List ℕ) (n m : ℕ) (first : List ℕ) (t : MBR) (e : MBRPartitionEntry) → Writing x n m first → Each CodeLong (firstOf t m) → length (firstOf t m) ≡ m
-    → (l : List Slot) → l ≡ slotsOf x t m → (i : ℕ) → i < length l → (s : Slot) → getD l i noSlot ≡ s → Valid n m (s .source)
-valid-at x n m first t e w c k l p i h s q =
+pub valid-at : (x : List ℕ) (n m : ℕ) (first : List ℕ) (ls : List LogicalPartition) (e : MBRPartitionEntry) → Writing x n m first → Each CodeLong ls → length ls ≡ m
+    → (l : List Slot) → l ≡ slotsOf x ls → (i : ℕ) → i < length l → (s : Slot) → getD l i noSlot ≡ s → Valid n m (s .source)
+valid-at x n m first ls e w c k l p i h s q =
     subst (λ (a : Slot). Valid n m (a .source)) (ap (λ (a : List Slot). getD a i noSlot) (sym p) ∙ q)
-    (source-valid x n m first t e w c k i (subst (λ (a : List Slot). i < length a) p h))
+    (source-valid x n m first ls e w c k i (subst (λ (a : List Slot). i < length a) p h))

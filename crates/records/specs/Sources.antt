@@ -4,7 +4,7 @@ use mathlib.Core.List.{List, [], _∷_}
 use mathlib.Core.Path.{_≡_}
 use mathlib.Core.Logic.{_⊎_}
 use lib.Dec.{ltb}
-use lib.ListN.{length, take}
+use lib.ListN.{length}
 use Rattle.base.specs.Pick.{pick}
 use Rattle.entry.specs.declared.MBRPartitionEntry.{MBRPartitionEntry}
 use Rattle.extract.specs.Disk.{Store}
@@ -12,7 +12,6 @@ use Rattle.extract.specs.Extract.{count, recordAt, Good}
 use Rattle.plan.specs.declared.Slot.{Slot}
 use Rattle.plan.specs.Plan.{slotsFrom, slotsOver}
 use Rattle.table.specs.declared.LogicalPartition.{LogicalPartition}
-use Rattle.table.specs.declared.MBR.{MBR}
 use Rattle.chain.specs.Facts.{at}
 use Rattle.records.specs.Records.{ebrStores}
 
@@ -35,17 +34,13 @@ unfoldable pub placesFrom : ℕ → List LogicalPartition → List Slot
 placesFrom k [] = []
 placesFrom k (l ∷ ls) = record { lba = at l; source = k } ∷ placesFrom (k + 1) ls
 
--- the first m logical partitions in the table's slots
-abbrev pub firstOf : MBR → ℕ → List LogicalPartition
-firstOf t m = take m (t .«logical_partitions»)
-
--- record 0 and the EBRs of the first m logical partitions
-abbrev pub storesOf : List ℕ → MBRPartitionEntry → MBR → ℕ → List Store
-storesOf first e t m = record { lba = 0; bytes = first } ∷ ebrStores e (firstOf t m)
+-- record 0 and the EBRs of logical partitions
+abbrev pub storesOf : List ℕ → MBRPartitionEntry → List LogicalPartition → List Store
+storesOf first e ls = record { lba = 0; bytes = first } ∷ ebrStores e ls
 
 -- the plan of the new extract
-abbrev pub slotsOf : List ℕ → MBR → ℕ → List Slot
-slotsOf x t m = slotsOver (record { lba = 0; source = 64 } ∷ placesFrom 65 (firstOf t m)) (slotsFrom x 0 (count x))
+abbrev pub slotsOf : List ℕ → List LogicalPartition → List Slot
+slotsOf x ls = slotsOver (record { lba = 0; source = 64 } ∷ placesFrom 65 ls) (slotsFrom x 0 (count x))
 
 -- an EBR's code is 446 bytes
 abbrev pub CodeLong : LogicalPartition → Type 0
@@ -55,7 +50,7 @@ CodeLong l = length (l .kept .«bootstrap_code») ≡ 446
 abbrev pub Valid : ℕ → ℕ → ℕ → Type 0
 Valid n m k = (k < n) ⊎ ((64 ≤ k) × (k < 65 + m))
 
--- what writing the m EBRs of a table over x requires
+-- what writing m EBRs over x requires
 pub record Writing (x : List ℕ) (n : ℕ) (m : ℕ) (first : List ℕ) : Type 0 where
   pub good : Good x
   pub number : n ≡ count x

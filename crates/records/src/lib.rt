@@ -3,35 +3,29 @@ use entry::MBRPartitionEntry;
 use plan::Plan;
 use plan::Slot;
 use table::LogicalPartition;
-use table::MBR;
 ghost use mathlib.Core.Path.{_≡_};
+ghost use mathlib.Core.Option.{none};
 ghost use Prim.Native.Nat.{_+_, _*_, _≤_, _<_};
 ghost use lib.ListN.{length};
 ghost use Rattle.base.specs.Put.{put};
+ghost use Rattle.base.specs.Checks.{first-fail};
 ghost use Rattle.extract.specs.Extract.{Good, count};
-ghost use Rattle.chain.specs.Facts.{at};
-ghost use Rattle.plan.specs.Plan.{planned, pieces, Each};
+ghost use Rattle.plan.specs.Plan.{planned, pieces};
+ghost use Rattle.block.specs.Block.{tableIn};
+ghost use Rattle.settle.specs.Settle.{Held, settledIn, geometryChecks};
 ghost use Rattle.links.specs.Links.{ebrWith};
 ghost use Rattle.ebr.specs.Ebr.{ebrBytes};
-ghost use Rattle.records.specs.Sources.{bytesFrom, keptFrom, firstOf, storesOf, slotsOf, CodeLong, Valid, Writing};
+ghost use Rattle.records.specs.Sources.{bytesFrom, keptFrom, storesOf, slotsOf, Valid, Writing};
 
-// Where the EBR of a logical partition goes.
-fn place_of(l: LogicalPartition) -> u32
-    ensures { λ r. ⌜ (r ≡ at l) × CodeLong l ⌝ }
-{
-    let place = l.absolute_ebr_lba;
-    place.0
-}
-
-// The plan of the new extract: record 0, and the EBRs of the first m logical partitions, laid over the old one in chain order.
-pub fn plan_for(x: &[u8], n: usize, t: MBR, m: usize) -> Plan
-    requires { ⌜ (n ≡ count (now x)) × Good (now x) × (m ≤ 24) ⌝ }
-    ensures { λ r. ⌜ (planned r ≡ slotsOf (now (x .entry)) t m) × (r .count ≤ 89) × Each CodeLong (firstOf t m) ⌝ }
+// The plan of the new extract: record 0, and the EBRs of a block's m logical partitions, laid over the old one in chain
+// order; the first EBR goes to `first_at`.
+pub fn plan_for(x: &[u8], n: usize, b: &[u8], first_at: u32, m: usize) -> Plan
+    requires { ⌜ (n ≡ count (now x)) × Good (now x) × Held (now b) × (m ≡ tableIn (now b) .count) ⌝ }
+    ensures { λ r. ⌜ (planned r ≡ slotsOf (now (x .entry)) (settledIn (tableIn (now (b .entry))) «first_at»)) × (r .count ≤ 89) ⌝ }
 {
     let mut p = plan::lay(plan::old(x, n), Slot { lba: 0, source: 64 });
     for i in 0..m {
-        let l = t.logical_partitions[i];
-        let lba = place_of(l);
+        let lba = settle::place(b, first_at, i);
         p = plan::lay(
             p,
             Slot {
@@ -73,13 +67,14 @@ pub fn put_records(
     n: usize,
     p: Plan,
     first: &[u8],
-    t: MBR,
+    b: &[u8],
     e: MBRPartitionEntry,
     m: usize,
 )
-    requires { ⌜ Writing (now x) n m (now first) × (planned p ≡ slotsOf (now x) t m) × Each CodeLong (firstOf t m) ⌝ }
+    requires { ⌜ Writing (now x) n m (now first) × (planned p ≡ slotsOf (now x) (settledIn (tableIn (now b)) (e .«starting_lba»))) ⌝ }
+    requires { ⌜ Held (now b) × (m ≡ tableIn (now b) .count) × (first-fail (geometryChecks (tableIn (now b)) (e .«starting_lba»)) ≡ none) ⌝ }
     requires { ⌜ (p .count ≤ 64) × (at ≤ 4096) × (at + p .count * 512 ≤ length (now out)) ⌝ }
-    ensures { λ _. ⌜ now (out .exit) ≡ put (now (out .entry)) at (pieces (λ s. bytesFrom (now (x .entry)) (storesOf (now (first .entry)) e t m) (s .source)) (planned p)) ⌝ }
+    ensures { λ _. ⌜ now (out .exit) ≡ put (now (out .entry)) at (pieces (λ s. bytesFrom (now (x .entry)) (storesOf (now (first .entry)) e (settledIn (tableIn (now (b .entry))) (e .«starting_lba»))) (s .source)) (planned p)) ⌝ }
 {
     let k = p.count;
     for i in 0..k {
@@ -89,9 +84,9 @@ pub fn put_records(
             put_kept(out, to, x, n, first, s.source);
         } else {
             let j = s.source - 65;
-            let l = t.logical_partitions[j];
+            let l = settle::settled_slot(b, e.starting_lba, j);
             if j + 1 < m {
-                let f = t.logical_partitions[j + 1];
+                let f = settle::settled_slot(b, e.starting_lba, j + 1);
                 put_ebr(out, to, l, links::link_to(e, f));
             } else {
                 put_ebr(out, to, l, MBRPartitionEntry::empty());

@@ -1,66 +1,77 @@
 -- Tables with other logical partitions, and refusals one logical partition after the other. Assumes nothing.
 use mathlib.Core.Path.{_≡_, refl, sym, ap, _∙_}
-use mathlib.Core.List.{List, [], _∷_, _++_, map, map-append}
-use mathlib.Core.Bool.{Bool, true}
+use mathlib.Core.List.{List, [], _∷_, _++_, map}
+use mathlib.Core.Bool.{Bool, true, false}
 use mathlib.Core.Option.{Option, none, some}
 use Prim.Native.Nat.{ℕ, zero, suc, _+_, _≤_, _<_}
 use native.Mathlib.Numerals.{add-one}
-use native.Mathlib.Nat.{add-zero}
 use native.Mathlib.Omega.{arith}
-use lib.ListN.{length, take, drop, getD, set, length-map, take-append-drop}
-use lib.Seq.{take-suc, drop-cons, drop-length, drop-at, take-at, length-take-le, set-at, append-snoc, getD-drop}
-use Rattle.base.specs.Checks.{Check, first-fail}
+use lib.ListN.{length, drop, getD, length-map}
+use lib.Seq.{drop-cons, drop-length, length-take-le, getD-take}
+use Rattle.base.specs.Checks.{Check, AllHold, first-fail}
 use Rattle.base.specs.Pick.{pick}
-use Rattle.base.proofs.Checks.{append-fails, append-holds, none-fails}
+use Rattle.base.proofs.Checks.{append-fails, append-holds, none-fails, all-hold, hold-left, hold-right}
 use Rattle.table.specs.declared.LogicalPartition.{LogicalPartition}
 use Rattle.table.specs.declared.MBR.{MBR}
-use Rattle.table.specs.Table.{noLogical, withLogicals, logicals}
+use Rattle.table.specs.Table.{most, noLogical, logicals}
+use Rattle.chain.specs.Facts.{at}
+use Rattle.block.specs.Block.{tableIn}
+use Rattle.block.proofs.Inside.{slots-in, slots-long}
 use Rattle.address.specs.declared.Geometry.{Geometry}
-use Rattle.push.specs.Address.{complete, updateChecks}
+use Rattle.push.specs.Address.{complete, addressed}
 use Rattle.push.specs.Push.{geometryOf}
-use Rattle.settle.specs.Settle.{atStart, firstAt, byGeometry, allGeometry, settled, linked, rowChecks, allRows, relisted, settleChecks}
+use Rattle.settle.specs.Settle.{atStart, firstAt, byGeometry, slotGeometry, allGeometry, settled, linked, rowChecks, allRows, settleChecks, Held, geometryChecks, settledIn}
 
--- no logical partition; the first in its place
-pub settled-none : (g : Geometry) (X n : ℕ) (l : List LogicalPartition) → n ≡ 0 → settled g X (take n l) ++ drop n l ≡ l
-unfolding settled firstAt
-settled-none g X n l e = rw e
-
-pub geometry-none : (g : Geometry) (X n : ℕ) (l : List LogicalPartition) → n ≡ 0 → first-fail (allGeometry g (firstAt X (take n l))) ≡ none
-unfolding allGeometry firstAt
-geometry-none g X n l e = rw e
-
-pub first-set : (X n : ℕ) (l : List LogicalPartition) → (n ≡ 0 → ⊥) → 0 < length l → set l 0 (atStart X (getD l 0 noLogical)) ≡ firstAt X (take n l) ++ drop n l
+-- the first in its place, a later one as it is
+pub first-here : (X i : ℕ) (ls : List LogicalPartition) → i ≡ 0 → i < length ls → getD (firstAt X ls) i noLogical ≡ atStart X (getD ls i noLogical)
 unfolding firstAt
-first-set X zero l h k = absurd (h refl)
-first-set X (suc n) [] h k = absurd (omega arith)
-first-set X (suc n) (l ∷ ls) h k = ap (_∷_ (atStart X l)) (sym (take-append-drop n ls))
+first-here X zero (l ∷ ls) e h = refl
+first-here X zero [] e h = absurd (omega arith)
+first-here X (suc i) ls e h = absurd (omega arith)
+
+pub first-later : (X i : ℕ) (ls : List LogicalPartition) → (i ≡ 0 → ⊥) → getD (firstAt X ls) i noLogical ≡ getD ls i noLogical
+unfolding firstAt
+first-later X i [] h = refl
+first-later X zero (l ∷ ls) h = absurd (h refl)
+first-later X (suc i) (l ∷ ls) h = refl
 
 pub length-first : (X : ℕ) (ls : List LogicalPartition) → length (firstAt X ls) ≡ length ls
 unfolding firstAt
 length-first X [] = refl
 length-first X (l ∷ ls) = refl
 
--- a list with a function on its first i elements: none, one more
-module _ {A : Type 0} (f : A → A) where
-  pub mapped-more : (l m : List A) (i : ℕ) (d : A) → m ≡ map f (take i l) ++ drop i l → i < length l → set m i (f (getD l i d)) ≡ map f (take (i + 1) l) ++ drop (i + 1) l
-  mapped-more l m i d e h =
-      let a = getD l i d in
-      let n : length (map f (take i l)) ≡ i = length-map (take i l) f ∙ length-take-le i l (omega arith) in
-      let p : map f (take (suc i) l) ≡ map f (take i l) ++ f a ∷ [] = ap (map f) (take-suc l i d h) ∙ map-append f (take i l) (a ∷ []) in
-      ap (λ k. set k i (f a)) e
-      ∙ ap (λ k. set (map f (take i l) ++ k) i (f a)) (drop-cons l i d h)
-      ∙ set-at (map f (take i l)) a (drop (suc i) l) (f a) i n
-      ∙ sym (append-snoc (map f (take i l)) (f a) (drop (suc i) l))
-      ∙ ap (λ k. k ++ drop (suc i) l) (sym p)
-      ∙ ap (λ k. map f (take k l) ++ drop k l) (sym (add-one i))
+-- one as writing leaves it
+map-at : {A : Type 0} (f : A → A) (l : List A) (i : ℕ) (d : A) → i < length l → getD (map f l) i d ≡ f (getD l i d)
+map-at f [] i d h = absurd (omega arith)
+map-at f (a ∷ l) zero d h = refl
+map-at f (a ∷ l) (suc i) d h = map-at f l i d (omega arith)
 
-  pub mapped-at : (l m : List A) (i : ℕ) (d : A) → m ≡ map f (take i l) ++ drop i l → i < length l → getD m i d ≡ getD l i d
-  mapped-at l m i d e h =
-      let n : length (map f (take i l)) ≡ i = length-map (take i l) f ∙ length-take-le i l (omega arith) in
-      ap (λ k. getD k i d) e
-      ∙ ap (λ j. getD (map f (take i l) ++ drop i l) j d) (sym (add-zero i))
-      ∙ sym (getD-drop i (map f (take i l) ++ drop i l) 0 d)
-      ∙ ap (λ k. getD k 0 d) (drop-at (map f (take i l)) (drop i l) i n ∙ drop-cons l i d h)
+pub settled-at : (g : Geometry) (X i : ℕ) (ls : List LogicalPartition) → i < length ls → getD (settled g X ls) i noLogical ≡ byGeometry g (getD (firstAt X ls) i noLogical)
+unfolding settled
+settled-at g X i ls h = map-at (byGeometry g) (firstAt X ls) i noLogical (omega (arith, length-first X ls))
+
+-- addresses leave its place and its code as they are
+place-stays : (g : Geometry) (l : LogicalPartition) → at (byGeometry g l) ≡ at l
+unfolding addressed
+place-stays g l = go (complete g)
+  where
+    go : (b : Bool) → at (pick b (addressed g l) l) ≡ at l
+    go true = refl
+    go false = refl
+
+first-kept : (X i : ℕ) (ls : List LogicalPartition) → getD (firstAt X ls) i noLogical .kept ≡ getD ls i noLogical .kept
+unfolding firstAt atStart
+first-kept X i [] = refl
+first-kept X zero (l ∷ ls) = refl
+first-kept X (suc i) (l ∷ ls) = refl
+
+kept-stays : (g : Geometry) (l : LogicalPartition) → byGeometry g l .kept ≡ l .kept
+unfolding addressed
+kept-stays g l = go (complete g)
+  where
+    go : (b : Bool) → pick b (addressed g l) l .kept ≡ l .kept
+    go true = refl
+    go false = refl
 
 -- the refusals from number i on
 module _ {k : ℕ} where
@@ -72,16 +83,16 @@ left-holds cs ds e = append-holds cs ds some none (none-fails cs e)
 
 module _ (g : Geometry) (l : List LogicalPartition) (i : ℕ) (h : i < length l) where
   geometry-here : first-fail (allGeometry g (drop i l))
-      ≡ first-fail (pick (complete g) (updateChecks g (getD l i noLogical)) [] ++ allGeometry g (drop (i + 1) l))
+      ≡ first-fail (slotGeometry g (getD l i noLogical) ++ allGeometry g (drop (i + 1) l))
   unfolding allGeometry
   geometry-here = rw (drop-cons l i noLogical h, add-one i)
 
-  pub geometry-fails : (k : ℕ) → first-fail (pick (complete g) (updateChecks g (getD l i noLogical)) []) ≡ some k → first-fail (allGeometry g (drop i l)) ≡ some k
-  geometry-fails k e = geometry-here ∙ left-fails (pick (complete g) (updateChecks g (getD l i noLogical)) []) (allGeometry g (drop (i + 1) l)) e
+  pub geometry-fails : (k : ℕ) → first-fail (slotGeometry g (getD l i noLogical)) ≡ some k → first-fail (allGeometry g (drop i l)) ≡ some k
+  geometry-fails k e = geometry-here ∙ left-fails (slotGeometry g (getD l i noLogical)) (allGeometry g (drop (i + 1) l)) e
 
-  pub geometry-holds : first-fail (pick (complete g) (updateChecks g (getD l i noLogical)) []) ≡ none
+  pub geometry-holds : first-fail (slotGeometry g (getD l i noLogical)) ≡ none
       → first-fail (allGeometry g (drop i l)) ≡ first-fail (allGeometry g (drop (i + 1) l))
-  geometry-holds e = geometry-here ∙ left-holds (pick (complete g) (updateChecks g (getD l i noLogical)) []) (allGeometry g (drop (i + 1) l)) e
+  geometry-holds e = geometry-here ∙ left-holds (slotGeometry g (getD l i noLogical)) (allGeometry g (drop (i + 1) l)) e
 
 -- the refusals of one logical partition l and of those from number i on, of which m is the first
 module _ (d : ℕ) (ls : List LogicalPartition) (l m : LogicalPartition) (i : ℕ) (h : i < length ls) (p : getD ls i noLogical ≡ m) where
@@ -103,64 +114,33 @@ pub geometry-end : (g : Geometry) (l : List LogicalPartition) (i : ℕ) → i �
 unfolding allGeometry
 geometry-end g l i e = rw (e, drop-length l)
 
--- the first n of a list, where there is none, from the first on, behind the last
-pub rows-none : (d n : ℕ) (l : List LogicalPartition) → n ≡ 0 → first-fail (allRows d (take n l)) ≡ none
+-- no row, from the first on, behind the last
+pub rows-none : (d : ℕ) (ls : List LogicalPartition) → length ls ≡ 0 → first-fail (allRows d ls) ≡ none
 unfolding allRows
-rows-none d n l e = rw e
+rows-none d [] e = refl
+rows-none d (l ∷ ls) e = absurd (omega arith)
 
-pub rows-first : (d n : ℕ) (l : List LogicalPartition) → (n ≡ 0 → ⊥) → 0 < length l → first-fail (allRows d (take n l)) ≡ first-fail (allRows d (getD l 0 noLogical ∷ drop 1 (take n l)))
-rows-first d zero l h k = absurd (h refl)
-rows-first d (suc n) [] h k = absurd (omega arith)
-rows-first d (suc n) (l ∷ ls) h k = refl
+pub rows-first : (d : ℕ) (ls : List LogicalPartition) → 0 < length ls → first-fail (allRows d ls) ≡ first-fail (allRows d (getD ls 0 noLogical ∷ drop 1 ls))
+rows-first d [] h = absurd (omega arith)
+rows-first d (l ∷ ls) h = refl
 
 pub rows-end : (d : ℕ) (ls : List LogicalPartition) (l : LogicalPartition) (i : ℕ) → i ≡ length ls → first-fail (allRows d (l ∷ drop i ls)) ≡ first-fail (rowChecks d l true)
 unfolding allRows
 rows-end d ls l i e = rw (e, drop-length ls)
 
--- a table whose logical partitions were replaced
-module _ (t : MBR) (ls : List LogicalPartition) (h : length ls ≡ t .count) where
-  pub relisted-logicals : logicals (relisted t ls) ≡ ls
-  relisted-logicals = take-at ls (drop (t .count) (t .«logical_partitions»)) (t .count) h
-
-  pub relisted-again : (ms : List LogicalPartition) → relisted (relisted t ls) ms ≡ relisted t ms
-  relisted-again ms = ap (λ k. withLogicals t (ms ++ k) (t .count)) (drop-at ls (drop (t .count) (t .«logical_partitions»)) (t .count) h)
-
+-- as many as the count says
 pub length-logicals : (t : MBR) → t .count ≤ length (t .«logical_partitions») → length (logicals t) ≡ t .count
 length-logicals t h = length-take-le (t .count) (t .«logical_partitions») h
 
--- a refusal is not none
-pub none-some : {A : Type 0} {o : Option ℕ} {k : ℕ} → o ≡ some k → o ≡ none → A
-none-some e f = let w : _≡_ {A = ℕ} 0 1 = cc in absurd (omega arith)
+-- the logical partitions as writing leaves them are as many
+pub settled-long : (t : MBR) (x : ℕ) → length (logicals t) ≡ t .count → length (settledIn t x) ≡ t .count
+unfolding settled
+settled-long t x h = length-map (firstAt x (logicals t)) (byGeometry (geometryOf t)) ∙ length-first x (logicals t) ∙ h
 
 -- the steps of settling a table
-module _ (t : MBR) (x d : ℕ) (h : length (logicals t) ≡ t .count) where
+module _ (t : MBR) (x d : ℕ) where
   abbrev ls : List LogicalPartition
   ls = logicals t
-
-  first-long : length (firstAt x ls) ≡ t .count
-  first-long = length-first x ls ∙ h
-
-  settled-long : length (settled (geometryOf t) x ls) ≡ t .count
-  unfolding settled
-  settled-long = length-map (firstAt x ls) (byGeometry (geometryOf t)) ∙ first-long
-
-  pub geometry-step : (u : MBR) → u ≡ relisted t (firstAt x ls) → first-fail (allGeometry (geometryOf u) (logicals u)) ≡ first-fail (allGeometry (geometryOf t) (firstAt x ls))
-  geometry-step u e =
-      ap (λ (v : MBR). first-fail (allGeometry (geometryOf v) (logicals v))) e
-      ∙ ap (λ (l : List LogicalPartition). first-fail (allGeometry (geometryOf t) l)) (relisted-logicals t (firstAt x ls) first-long)
-
-  pub table-step : (u w : MBR) → u ≡ relisted t (firstAt x ls) → w ≡ relisted u (map (byGeometry (geometryOf u)) (logicals u)) → w ≡ relisted t (settled (geometryOf t) x ls)
-  unfolding settled
-  table-step u w e f =
-      f
-      ∙ ap (λ (v : MBR). relisted v (map (byGeometry (geometryOf v)) (logicals v))) e
-      ∙ ap (λ (l : List LogicalPartition). relisted (relisted t (firstAt x ls)) (map (byGeometry (geometryOf t)) l)) (relisted-logicals t (firstAt x ls) first-long)
-      ∙ relisted-again t (firstAt x ls) first-long (map (byGeometry (geometryOf t)) (firstAt x ls))
-
-  pub rows-step : (w : MBR) → w ≡ relisted t (settled (geometryOf t) x ls) → first-fail (allRows d (logicals w)) ≡ first-fail (allRows d (settled (geometryOf t) x ls))
-  rows-step w e =
-      ap (λ (v : MBR). first-fail (allRows d (logicals v))) e
-      ∙ ap (λ (l : List LogicalPartition). first-fail (allRows d l)) (relisted-logicals t (settled (geometryOf t) x ls) settled-long)
 
   pub settle-fails : (k : ℕ) → first-fail (allGeometry (geometryOf t) (firstAt x ls)) ≡ some k → first-fail (settleChecks (geometryOf t) x d ls) ≡ some k
   unfolding settleChecks
@@ -169,3 +149,55 @@ module _ (t : MBR) (x d : ℕ) (h : length (logicals t) ≡ t .count) where
   pub settle-rows : first-fail (allGeometry (geometryOf t) (firstAt x ls)) ≡ none → first-fail (settleChecks (geometryOf t) x d ls) ≡ first-fail (allRows d (settled (geometryOf t) x ls))
   unfolding settleChecks
   settle-rows e = left-holds (allGeometry (geometryOf t) (firstAt x ls)) (allRows d (settled (geometryOf t) x ls)) e
+
+  pub settle-none : first-fail (settleChecks (geometryOf t) x d ls) ≡ none → first-fail (geometryChecks t x) ≡ none
+  unfolding settleChecks
+  settle-none e =
+      let g = allGeometry (geometryOf t) (firstAt x ls) in
+      all-hold g (hold-left g (allRows d (settled (geometryOf t) x ls)) (none-fails (settleChecks (geometryOf t) x d ls) e))
+
+-- where no address is refused, none of one logical partition is
+each-holds : (g : Geometry) (l : List LogicalPartition) (i : ℕ) → i < length l → AllHold (allGeometry g l) → AllHold (slotGeometry g (getD l i noLogical))
+unfolding allGeometry
+each-holds g [] i h a = absurd (omega arith)
+each-holds g (l ∷ ls) zero h a = hold-left (slotGeometry g l) (allGeometry g ls) a
+each-holds g (l ∷ ls) (suc i) h a = each-holds g ls i (omega arith) (hold-right (slotGeometry g l) (allGeometry g ls) a)
+
+pub geometry-each : (g : Geometry) (l : List LogicalPartition) (i : ℕ) → i < length l → first-fail (allGeometry g l) ≡ none → first-fail (slotGeometry g (getD l i noLogical)) ≡ none
+geometry-each g l i h e = all-hold (slotGeometry g (getD l i noLogical)) (each-holds g l i h (none-fails (allGeometry g l) e))
+
+-- the logical partitions of a block
+module _ (b : List ℕ) (h : Held b) where
+  pub held-long : length (logicals (tableIn b)) ≡ tableIn b .count
+  held-long = length-logicals (tableIn b) (omega (arith, ap length (slots-in b) ∙ slots-long b most, h .1))
+
+  module _ (x i : ℕ) (k : i < tableIn b .count) where
+    pub held-in : i < length (logicals (tableIn b))
+    held-in = omega (arith, held-long)
+
+    pub held-at : getD (logicals (tableIn b)) i noLogical ≡ getD (tableIn b .«logical_partitions») i noLogical
+    held-at = getD-take (tableIn b .count) (tableIn b .«logical_partitions») i noLogical k
+
+    pub held-none : first-fail (geometryChecks (tableIn b) x) ≡ none → first-fail (slotGeometry (geometryOf (tableIn b)) (getD (firstAt x (logicals (tableIn b))) i noLogical)) ≡ none
+    held-none = geometry-each (geometryOf (tableIn b)) (firstAt x (logicals (tableIn b))) i (omega (arith, length-first x (logicals (tableIn b)), held-in))
+
+    -- as writing leaves it
+    pub held-first : i ≡ 0 → at (getD (settledIn (tableIn b) x) i noLogical) ≡ x
+    unfolding atStart
+    held-first e =
+        ap at (settled-at (geometryOf (tableIn b)) x i (logicals (tableIn b)) held-in)
+        ∙ place-stays (geometryOf (tableIn b)) _
+        ∙ ap at (first-here x i (logicals (tableIn b)) e held-in)
+
+    pub held-later : (i ≡ 0 → ⊥) → at (getD (settledIn (tableIn b) x) i noLogical) ≡ at (getD (tableIn b .«logical_partitions») i noLogical)
+    held-later e =
+        ap at (settled-at (geometryOf (tableIn b)) x i (logicals (tableIn b)) held-in)
+        ∙ place-stays (geometryOf (tableIn b)) _
+        ∙ ap at (first-later x i (logicals (tableIn b)) e ∙ held-at)
+
+    pub held-kept : getD (settledIn (tableIn b) x) i noLogical .kept ≡ getD (tableIn b .«logical_partitions») i noLogical .kept
+    held-kept =
+        ap (λ (l : LogicalPartition). l .kept) (settled-at (geometryOf (tableIn b)) x i (logicals (tableIn b)) held-in)
+        ∙ kept-stays (geometryOf (tableIn b)) _
+        ∙ first-kept x i (logicals (tableIn b))
+        ∙ ap (λ (l : LogicalPartition). l .kept) held-at

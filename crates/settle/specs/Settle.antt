@@ -1,10 +1,11 @@
 -- The logical partitions as writing leaves them, and the refusals of their geometry and of each EBR. Assumes nothing.
-use Prim.Native.Nat.{ℕ}
+use Prim.Native.Nat.{ℕ, _≤_}
 use mathlib.Core.List.{List, [], _∷_, _++_, map}
-use mathlib.Core.Bool.{Bool, true, false, _&&_}
+use mathlib.Core.Bool.{Bool, true, false}
 use mathlib.Core.Option.{Option, none, some}
 use lib.Dec.{ltb}
-use lib.ListN.{drop}
+use mathlib.Core.Path.{_≡_}
+use lib.ListN.{length, drop}
 use Rattle.base.specs.Pick.{pick}
 use Rattle.base.specs.Checks.{Check, _!_}
 use Rattle.base.specs.Row.{next}
@@ -15,10 +16,12 @@ use Rattle.table.specs.declared.MaybeChs.{MaybeChs}
 use Rattle.table.specs.declared.MaybeChs.the-variants.{Absent as NoChs, Present as SomeChs}
 use Rattle.table.specs.declared.LogicalPartition.{LogicalPartition}
 use Rattle.table.specs.declared.MBR.{MBR}
-use Rattle.table.specs.Table.{withLogicals}
+use Rattle.table.specs.Table.{most, logicals, withLogicals}
+use Rattle.block.specs.Block.{blockLength, tableIn}
 use Rattle.chain.specs.Facts.{at}
 use Rattle.address.specs.declared.Geometry.{Geometry}
 use Rattle.push.specs.Address.{complete, updateChecks, addressed}
+use Rattle.push.specs.Push.{geometryOf}
 
 -- the EBR at X, without link sectors and last link CHS
 unfoldable pub atStart : ℕ → LogicalPartition → LogicalPartition
@@ -41,10 +44,14 @@ firstAt X (l ∷ ls) = atStart X l ∷ ls
 abbrev pub byGeometry : Geometry → LogicalPartition → LogicalPartition
 byGeometry g l = pick (complete g) (addressed g l) l
 
+-- the refusals of its addresses
+abbrev pub slotGeometry : Geometry → LogicalPartition → List Check
+slotGeometry g l = pick (complete g) (updateChecks g l) []
+
 -- the refusals of the addresses, one logical partition after the other
 unfoldable pub allGeometry : Geometry → List LogicalPartition → List Check
 allGeometry g [] = []
-allGeometry g (l ∷ ls) = pick (complete g) (updateChecks g l) [] ++ allGeometry g ls
+allGeometry g (l ∷ ls) = slotGeometry g l ++ allGeometry g ls
 
 -- the logical partitions as writing leaves them
 unfoldable pub settled : Geometry → ℕ → List LogicalPartition → List LogicalPartition
@@ -77,3 +84,14 @@ relisted t ls = withLogicals t (ls ++ drop (t .count) (t .«logical_partitions»
 -- all refusals of logical partitions in an extended entry that starts at X: geometry first
 unfoldable pub settleChecks : Geometry → ℕ → ℕ → List LogicalPartition → List Check
 settleChecks g X d ls = allGeometry g (firstAt X ls) ++ allRows d (settled g X ls)
+
+-- a block that has passed its checks
+abbrev pub Held : List ℕ → Type 0
+Held b = (length b ≡ blockLength) × (tableIn b .count ≤ most)
+
+-- a table's logical partitions as writing leaves them, and the refusals of their addresses, if the extended entry starts at X
+abbrev pub settledIn : MBR → ℕ → List LogicalPartition
+settledIn t X = settled (geometryOf t) X (logicals t)
+
+abbrev pub geometryChecks : MBR → ℕ → List Check
+geometryChecks t X = allGeometry (geometryOf t) (firstAt X (logicals t))

@@ -1,25 +1,22 @@
-// The logical partitions of a table as writing leaves them, and what writing refuses of them.
+// The logical partitions of a block as writing leaves them, read where they stand, and what writing refuses of them.
 use base::Answer;
 use push::Geometry;
+use push::Updated;
 use table::DiskLba;
 use table::LogicalPartition;
-use table::MBR;
 use table::MaybeChs;
 use table::MaybeSectors;
 ghost use mathlib.Core.Path.{_≡_};
 ghost use mathlib.Core.Option.{none};
-ghost use Prim.Native.Nat.{_≤_};
+ghost use Prim.Native.Nat.{_<_};
+ghost use lib.ListN.{getD};
 ghost use Rattle.base.specs.Said.{refusal};
 ghost use Rattle.base.specs.Checks.{first-fail};
-ghost use Rattle.table.specs.Table.{logicals};
+ghost use Rattle.table.specs.Table.{logicals, noLogical};
+ghost use Rattle.chain.specs.Facts.{at};
+ghost use Rattle.block.specs.Block.{tableIn};
 ghost use Rattle.push.specs.Push.{geometryOf};
-ghost use Rattle.settle.specs.Settle.{atStart, firstAt, allGeometry, settled, linkThere, rowChecks, allRows, relisted, settleChecks};
-
-// A table, and what the call says beside it.
-pub struct Settled {
-    pub answer: Answer,
-    pub table: MBR,
-}
+ghost use Rattle.settle.specs.Settle.{atStart, firstAt, linkThere, rowChecks, allRows, settleChecks, Held, slotGeometry, geometryChecks, settledIn};
 
 // The EBR at a place, without link sectors and last link CHS.
 fn at_start(x: u32, l: LogicalPartition) -> LogicalPartition
@@ -38,44 +35,75 @@ fn at_start(x: u32, l: LogicalPartition) -> LogicalPartition
     }
 }
 
-// The table with the first EBR at x, and the addresses of each logical partition, if its geometry is complete.
-fn addresses(t: MBR, x: u32) -> Settled
-    requires { ⌜ t .count ≤ 24 ⌝ }
-    ensures { λ r. ⌜ refusal (r .answer) ≡ first-fail (allGeometry (geometryOf t) (firstAt x (logicals t))) ⌝ }
-    ensures { λ r. ⌜ (refusal (r .answer) ≡ none → r .table ≡ relisted t (settled (geometryOf t) x (logicals t))) ⌝ }
+// The logical partition of a slot, the first one with its EBR at x.
+fn placed_slot(b: &[u8], x: u32, i: usize) -> LogicalPartition
+    requires { ⌜ Held (now b) × (i < tableIn (now b) .count) ⌝ }
+    ensures { λ r. ⌜ r ≡ getD (firstAt x (logicals (tableIn (now (b .entry))))) i noLogical ⌝ }
 {
-    let g = Geometry {
-        cylinders: t.cylinders,
-        heads: t.heads,
-        sectors: t.sectors,
-    };
-    let n = t.count;
-    let mut u = t;
-    if n == 0 {
-        return Settled {
-            answer: Answer::Done,
-            table: u,
-        };
+    let l = inside::slot(b, i);
+    if i == 0 {
+        return at_start(x, l);
     }
-    let f = u.logical_partitions[0];
-    u.logical_partitions[0] = at_start(x, f);
+    l
+}
+
+// The geometry.
+fn geometry(b: &[u8]) -> Geometry
+    requires { ⌜ Held (now b) ⌝ }
+    ensures { λ r. ⌜ r ≡ geometryOf (tableIn (now (b .entry))) ⌝ }
+{
+    let cylinders = base::get16(b, 16);
+    Geometry {
+        cylinders: cylinders,
+        heads: b[18],
+        sectors: b[19],
+    }
+}
+
+// The same with its addresses, if the geometry is complete.
+pub fn addressed_slot(b: &[u8], x: u32, i: usize) -> Updated
+    requires { ⌜ Held (now b) × (i < tableIn (now b) .count) ⌝ }
+    ensures { λ r. ⌜ refusal (r .answer) ≡ first-fail (slotGeometry (geometryOf (tableIn (now (b .entry)))) (getD (firstAt x (logicals (tableIn (now (b .entry))))) i noLogical)) ⌝ }
+    ensures { λ r. ⌜ (refusal (r .answer) ≡ none → r .logical ≡ getD (settledIn (tableIn (now (b .entry))) x) i noLogical) ⌝ }
+{
+    let l = placed_slot(b, x, i);
+    push::with_geometry(geometry(b), l)
+}
+
+// A logical partition as writing leaves it, where no address is refused.
+pub fn settled_slot(b: &[u8], x: u32, i: usize) -> LogicalPartition
+    requires { ⌜ Held (now b) × (i < tableIn (now b) .count) × (first-fail (geometryChecks (tableIn (now b)) x) ≡ none) ⌝ }
+    ensures { λ r. ⌜ r ≡ getD (settledIn (tableIn (now (b .entry))) x) i noLogical ⌝ }
+{
+    let v = addressed_slot(b, x, i);
+    v.logical
+}
+
+// Where the EBR of one goes.
+pub fn place(b: &[u8], x: u32, i: usize) -> u32
+    requires { ⌜ Held (now b) × (i < tableIn (now b) .count) ⌝ }
+    ensures { λ r. ⌜ r ≡ at (getD (settledIn (tableIn (now (b .entry))) x) i noLogical) ⌝ }
+{
+    if i == 0 {
+        return x;
+    }
+    inside::ebr_lba(b, i)
+}
+
+// The addresses of one logical partition after the other.
+fn addresses(b: &[u8], x: u32) -> Answer
+    requires { ⌜ Held (now b) ⌝ }
+    ensures { λ r. ⌜ refusal r ≡ first-fail (geometryChecks (tableIn (now (b .entry))) x) ⌝ }
+{
+    let n = inside::count(b);
     for i in 0..n {
-        let l = u.logical_partitions[i];
-        let v = push::with_geometry(g, l);
+        let v = addressed_slot(b, x, i);
         let a = v.answer;
         if let Answer::Refused(k) = a {
-            return Settled {
-                answer: Answer::Refused(k),
-                table: u,
-            };
+            return Answer::Refused(k);
         }
-        let m = v.logical;
-        u.logical_partitions[i] = m;
     }
-    Settled {
-        answer: Answer::Done,
-        table: u,
-    }
+    Answer::Done
 }
 
 // Are link sectors and last link CHS there?
@@ -110,17 +138,17 @@ fn row(l: LogicalPartition, d: u32, follows: bool) -> Answer
 }
 
 // One logical partition after the other.
-fn rows(t: MBR, d: u32) -> Answer
-    requires { ⌜ t .count ≤ 24 ⌝ }
-    ensures { λ r. ⌜ refusal r ≡ first-fail (allRows d (logicals t)) ⌝ }
+fn rows(b: &[u8], x: u32, d: u32) -> Answer
+    requires { ⌜ Held (now b) × (first-fail (geometryChecks (tableIn (now b)) x) ≡ none) ⌝ }
+    ensures { λ r. ⌜ refusal r ≡ first-fail (allRows d (settledIn (tableIn (now (b .entry))) x)) ⌝ }
 {
-    let n = t.count;
+    let n = inside::count(b);
     if n == 0 {
         return Answer::Done;
     }
-    let mut l = t.logical_partitions[0];
+    let mut l = settled_slot(b, x, 0);
     for i in 1..n {
-        let m = t.logical_partitions[i];
+        let m = settled_slot(b, x, i);
         let sectors = m.ebr_sectors;
         let last = m.ebr_last_chs;
         let follows = has_link(sectors, last);
@@ -133,23 +161,14 @@ fn rows(t: MBR, d: u32) -> Answer
     row(l, d, true)
 }
 
-// The table as writing leaves it, for an extended entry that starts at x on a disk of d sectors; a refusal's table means nothing.
-pub fn settle(t: MBR, x: u32, d: u32) -> Settled
-    requires { ⌜ t .count ≤ 24 ⌝ }
-    ensures { λ r. ⌜ refusal (r .answer) ≡ first-fail (settleChecks (geometryOf t) x d (logicals t)) ⌝ }
-    ensures { λ r. ⌜ (refusal (r .answer) ≡ none → r .table ≡ relisted t (settled (geometryOf t) x (logicals t))) ⌝ }
+// What writing refuses of a block's logical partitions, for an extended entry that starts at x on a disk of d sectors.
+pub fn settle(b: &[u8], x: u32, d: u32) -> Answer
+    requires { ⌜ Held (now b) ⌝ }
+    ensures { λ r. ⌜ refusal r ≡ first-fail (settleChecks (geometryOf (tableIn (now (b .entry)))) x d (logicals (tableIn (now (b .entry))))) ⌝ }
 {
-    let v = addresses(t, x);
-    let a = v.answer;
+    let a = addresses(b, x);
     match a {
-        Answer::Refused(k) => v,
-        Answer::Done => {
-            let w = v.table;
-            let b = rows(w, d);
-            Settled {
-                answer: b,
-                table: w,
-            }
-        }
+        Answer::Refused(k) => Answer::Refused(k),
+        Answer::Done => rows(b, x, d),
     }
 }

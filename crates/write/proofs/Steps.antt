@@ -1,14 +1,17 @@
 -- The steps of writing, as the code takes them. Assumes nothing.
-use mathlib.Core.Path.{_≡_, sym, ap, subst, _∙_}
+use mathlib.Core.Path.{_≡_, refl, sym, ap, subst, _∙_}
 use mathlib.Core.List.{List, [], _∷_, _++_}
 use mathlib.Core.Option.{Option, none, some}
-use Prim.Native.Nat.{ℕ, _+_, _*_, _≤_, _<_}
+use Prim.Native.Nat.{ℕ, suc, _+_, _*_, _≤_, _<_}
+use native.Mathlib.Numerals.{add-one}
 use native.Mathlib.Omega.{arith}
-use lib.ListN.{length, length-map}
+use lib.ListN.{length, getD, take, drop, set}
+use lib.Seq.{length-take-le, drop-cons, take-suc, set-at, append-snoc}
 use borrow.Author.Tests.{lt-ltb, le-ltb, lt-leb, le-leb}
 use Rattle.base.specs.Put.{put}
-use Rattle.base.specs.Said.{gives, refuses}
-use Rattle.base.specs.Checks.{Check, first-fail}
+use Rattle.base.specs.Said.{Said, gives, refuses}
+use Rattle.base.specs.Checks.{Check, AllHold, first-fail}
+use Rattle.base.proofs.Checks.{all-hold}
 use Rattle.entry.specs.declared.MBRPartitionEntry.{MBRPartitionEntry}
 use Rattle.mbr.specs.declared.MBRHeader.{MBRHeader}
 use Rattle.mbr.specs.Mbr.{mbrBytes}
@@ -28,28 +31,29 @@ use Rattle.plan.specs.Plan.{pieces, lbaOf, Each}
 use Rattle.plan.proofs.Laws.{length-pieces, lbas-wide}
 use Rattle.table.specs.declared.LogicalPartition.{LogicalPartition}
 use Rattle.table.specs.declared.MBR.{MBR}
-use Rattle.table.specs.Table.{logicals, extendedIn}
+use Rattle.table.specs.Table.{noLogical, logicals, extendedIn}
 use Rattle.push.specs.Push.{geometryOf}
-use Rattle.settle.specs.Settle.{settled, settleChecks, relisted, firstAt, byGeometry}
-use Rattle.settle.proofs.Laws.{relisted-logicals, length-first}
+use Rattle.settle.specs.Settle.{settleChecks, settledIn}
+use Rattle.settle.proofs.Laws.{settle-none}
 use Rattle.write.specs.declared.Written.{Written}
-use Rattle.write.specs.Write.{headerStore, chainStores, tableStores, roomChecks, chainChecks, diskChecks, chainOn, headerOn, writeChecks, leftBy}
+use Rattle.write.specs.Write.{headerStore, chainStores, tableStores, roomChecks, chainChecks, diskChecks, chainOn, headerOn, writeChecks, leftBy, chainGeometry}
 use Rattle.records.specs.Records.{ebrStores, laidAll, extractOver}
-use Rattle.write.specs.Answers.{writeSays, writeTable, writeLeaves, Put, Told, Tells, tableBy}
-use Rattle.records.specs.Sources.{bytesFrom, firstOf, storesOf, slotsOf, CodeLong, Writing}
+use Rattle.write.specs.Answers.{writeSays, writeTable, writeLeaves, Put, Lays, tableBy, Fine}
+use Rattle.records.specs.Sources.{bytesFrom, storesOf, slotsOf, CodeLong, Writing}
 use Rattle.records.proofs.Laws.{extract-parts, extract-count, extract-long}
-use Rattle.write.proofs.Told.{told-put, told-fails, told-skip}
+use Rattle.write.proofs.Told.{table-checked, put-fails, put-skip}
+use Rattle.write.proofs.Over.{chain-held}
 
 -- room for the new extract
-module _ (x : List ℕ) (n m : ℕ) (first : List ℕ) (t : MBR) (e : MBRPartitionEntry) (w : Writing x n m first) (c : Each CodeLong (firstOf t m)) (l : List Slot) (p : l ≡ slotsOf x t m) (k : ℕ) (q : length l ≡ k) (out : List ℕ) where
+module _ (x : List ℕ) (n m : ℕ) (first : List ℕ) (ls : List LogicalPartition) (e : MBRPartitionEntry) (w : Writing x n m first) (c : Each CodeLong ls) (l : List Slot) (p : l ≡ slotsOf x ls) (k : ℕ) (q : length l ≡ k) (out : List ℕ) where
   abbrev ss : List Store
-  ss = storesOf first e t m
+  ss = storesOf first e ls
 
   many : length (laidAll ss (records x)) ≡ k
-  many = extract-count x n m first t e w c ∙ ap length (sym p) ∙ q
+  many = extract-count x n m first ls e w c ∙ ap length (sym p) ∙ q
 
   size : length (extractOver x ss) ≡ 24 + k * 516
-  size = extract-long x n m first t e w c ∙ ap (λ j. 24 + j * 516) (ap length (sym p) ∙ q)
+  size = extract-long x n m first ls e w c ∙ ap (λ j. 24 + j * 516) (ap length (sym p) ∙ q)
 
   pub room-many : 64 < k → (r : Laid) → laidSaid r ≡ refuses 22 → Put r out out (roomChecks x ss (length out)) (extractOver x ss)
   unfolding roomChecks
@@ -70,7 +74,7 @@ module _ (x : List ℕ) (n m : ℕ) (first : List ℕ) (t : MBR) (e : MBRPartiti
       let lb : length b ≡ k * 4 = length-pieces lbaOf 4 l (lbas-wide l) ∙ ap (λ j. j * 4) q in
       let all : d₃ ≡ put out 0 (a ++ b ++ g) = three out d₁ d₂ d₃ 0 24 (k * 4) a b g (length-header z d k) lb (omega arith) e₁ e₂ e₃ in
       let parts : extractOver x ss ≡ headerBytes (sectorSize x) (diskSectors x) (length l) ++ pieces lbaOf l ++ g =
-      extract-parts x n m first t e w c
+      extract-parts x n m first ls e w c
       ∙ ap (λ (j : List Slot). headerBytes (sectorSize x) (diskSectors x) (length j) ++ pieces lbaOf j ++ pieces (λ s. bytesFrom x ss (s .source)) j) (sym p) in
       let same : a ++ b ++ g ≡ extractOver x ss =
       ap (λ j. headerBytes j d k ++ b ++ g) ez
@@ -83,51 +87,37 @@ module _ (x : List ℕ) (n m : ℕ) (first : List ℕ) (t : MBR) (e : MBRPartiti
       }
 
 -- a table without an extended entry, and one with it
-module _ (v : Written) (out after x : List ℕ) (t : MBR) where
+module _ (r : Laid) (out after x : List ℕ) (t : MBR) where
   abbrev By : Option MBRPartitionEntry → Type 0
   By o =
-      Told v out after
+      Put r out after
       (chainChecks (geometryOf t) o (diskSectors x) (logicals t) ++ roomChecks x (headerStore (t .header) ∷ chainStores (geometryOf t) o (logicals t)) (length out))
-      (extractOver x (headerStore (t .header) ∷ chainStores (geometryOf t) o (logicals t))) t (leftBy o t)
+      (extractOver x (headerStore (t .header) ∷ chainStores (geometryOf t) o (logicals t)))
 
-  by-entry : (o : Option MBRPartitionEntry) → extendedIn t ≡ o → By o → Tells v t x out after (chainOn t x (length out))
+  by-entry : (o : Option MBRPartitionEntry) → extendedIn t ≡ o → By o → Lays r t x out after (chainOn t x (length out))
   unfolding tableStores
   by-entry o e b = subst By (sym e) b
 
-  pub plain-told : (r : Laid) (first : List ℕ) (e : MBRPartitionEntry) → extendedIn t ≡ none → first ≡ mbrBytes (t .header)
-      → Put r out after (roomChecks x (storesOf first e t 0) (length out)) (extractOver x (storesOf first e t 0)) → laidSaid (v .answer) ≡ laidSaid r → v .table ≡ tableBy (laidSaid r) t t
-      → Tells v t x out after (chainOn t x (length out))
-  unfolding ebrStores
-  plain-told r first e n f p s q =
-      let g : Put r out after (roomChecks x (storesOf (mbrBytes (t .header)) e t 0) (length out)) (extractOver x (storesOf (mbrBytes (t .header)) e t 0)) =
-      subst (λ (b : List ℕ). Put r out after (roomChecks x (storesOf b e t 0) (length out)) (extractOver x (storesOf b e t 0))) f p in
-      by-entry none n (told-put v out after (extractOver x (headerStore (t .header) ∷ [])) t t r (roomChecks x (headerStore (t .header) ∷ []) (length out)) g s q)
+  pub plain-put : (h : MBRHeader) → h ≡ t .header → extendedIn t ≡ none → Put r out after (roomChecks x (headerStore h ∷ []) (length out)) (extractOver x (headerStore h ∷ []))
+      → Lays r t x out after (chainOn t x (length out))
+  plain-put h i n p = by-entry none n (subst (λ (h : MBRHeader). Put r out after (roomChecks x (headerStore h ∷ []) (length out)) (extractOver x (headerStore h ∷ []))) i p)
 
   module _ (e : MBRPartitionEntry) (n : extendedIn t ≡ some e) where
     abbrev cs : List Check
     cs = settleChecks (geometryOf t) (e .«starting_lba») (diskSectors x) (logicals t)
 
-    abbrev ls : List LogicalPartition
-    ls = settled (geometryOf t) (e .«starting_lba») (logicals t)
-
     abbrev new : List Store
-    new = headerStore (t .header) ∷ ebrStores e ls
+    new = headerStore (t .header) ∷ ebrStores e (settledIn t (e .«starting_lba»))
 
-    pub chain-refused : (k : ℕ) → first-fail cs ≡ some k → laidSaid (v .answer) ≡ refuses k → v .table ≡ t → after ≡ out → Tells v t x out after (chainOn t x (length out))
-    chain-refused k f s q l = by-entry (some e) n (told-fails v out after (extractOver x new) t (relisted t ls) cs (roomChecks x new (length out)) k f s q l)
+    pub chain-refused : (k : ℕ) → first-fail cs ≡ some k → laidSaid r ≡ refuses k → after ≡ out → Lays r t x out after (chainOn t x (length out))
+    chain-refused k f s l = by-entry (some e) n (put-fails r out after (extractOver x new) cs (roomChecks x new (length out)) k f s l)
 
-    pub chain-told : (r : Laid) (first : List ℕ) (u : MBR) → first ≡ mbrBytes (t .header) → length (logicals t) ≡ t .count → u ≡ relisted t ls → first-fail cs ≡ none
-        → Put r out after (roomChecks x (storesOf first e u (t .count)) (length out)) (extractOver x (storesOf first e u (t .count))) → laidSaid (v .answer) ≡ laidSaid r → v .table ≡ tableBy (laidSaid r) t u
-        → Tells v t x out after (chainOn t x (length out))
-    unfolding settled
-    chain-told r first u f h i c p s q =
-        let many : length ls ≡ t .count = length-map (firstAt (e .«starting_lba») (logicals t)) (byGeometry (geometryOf t)) ∙ length-first (e .«starting_lba») (logicals t) ∙ h in
-        let same : firstOf u (t .count) ≡ ls = ap (λ (z : MBR). firstOf z (t .count)) i ∙ relisted-logicals t ls many in
-        let stores : storesOf first e u (t .count) ≡ new = ap (λ (b : List ℕ). record { lba = 0; bytes = b } ∷ ebrStores e (firstOf u (t .count))) f ∙ ap (λ (z : List LogicalPartition). headerStore (t .header) ∷ ebrStores e z) same in
-        let g = subst (λ z. Put r out after (roomChecks x z (length out)) (extractOver x z)) stores p in
-        by-entry (some e) n
-        (told-skip v out after (extractOver x new) t (relisted t ls) cs (roomChecks x new (length out)) c
-        (told-put v out after (extractOver x new) t (relisted t ls) r (roomChecks x new (length out)) g s (q ∙ ap (tableBy (laidSaid r) t) i)))
+    pub chain-put : (h : MBRHeader) (first : List ℕ) → first ≡ mbrBytes h → h ≡ t .header → first-fail cs ≡ none
+        → Put r out after (roomChecks x (storesOf first e (settledIn t (e .«starting_lba»))) (length out)) (extractOver x (storesOf first e (settledIn t (e .«starting_lba»))))
+        → Lays r t x out after (chainOn t x (length out))
+    chain-put h first f i c p =
+        let g = subst (λ (b : List ℕ). Put r out after (roomChecks x (storesOf b e (settledIn t (e .«starting_lba»))) (length out)) (extractOver x (storesOf b e (settledIn t (e .«starting_lba»))))) (f ∙ ap mbrBytes i) p in
+        by-entry (some e) n (put-skip r out after (extractOver x new) cs (roomChecks x new (length out)) c g)
 
 -- D 0
 pub disk-none : (x : List ℕ) (k : Extract) → k ≡ headerOf x → k .«disk_size» ≡ 0 → first-fail (diskChecks x) ≡ some 2
@@ -156,17 +146,42 @@ header-laid x h first out after r g f l d s o =
     })
 
 -- a count over 24, and one that is not
-module _ (v : Written) (out after x : List ℕ) (t : MBR) where
-  pub into-six : 24 < t .count → laidSaid (v .answer) ≡ refuses 6 → v .table ≡ t → after ≡ out
-      → (laidSaid (v .answer) ≡ writeSays t x (length out)) × ((v .table ≡ writeTable t x (length out)) × (after ≡ writeLeaves t x out))
-  unfolding writeSays writeTable writeLeaves writeChecks
-  into-six h s q l =
-      let e = lt-leb (t .count) 24 h in
-      (s ∙ rw e, (q ∙ rw e, l ∙ rw e))
+pub into-six : (v : Written) (out after x : List ℕ) (t : MBR) → 24 < t .count → laidSaid (v .answer) ≡ refuses 6 → v .table ≡ t → after ≡ out
+    → (laidSaid (v .answer) ≡ writeSays t x (length out)) × ((v .table ≡ writeTable t x (length out)) × (after ≡ writeLeaves t x out))
+unfolding writeSays writeTable writeLeaves writeChecks
+into-six v out after x t h s q l =
+    let e = lt-leb (t .count) 24 h in
+    (s ∙ rw e, (q ∙ rw e, l ∙ rw e))
 
-  pub into-rest : t .count ≤ 24 → Tells v t x out after (extractChecks x ++ headerOn t x (length out))
-      → (laidSaid (v .answer) ≡ writeSays t x (length out)) × ((v .table ≡ writeTable t x (length out)) × (after ≡ writeLeaves t x out))
-  unfolding writeSays writeTable writeLeaves writeChecks
-  into-rest h p =
-      let e = le-leb (t .count) 24 h in
-      (p .says ∙ rw e, (p .table ∙ rw e, p .leaves ∙ rw e))
+pub into-rest : (r : Laid) (out after x : List ℕ) (t : MBR) → t .count ≤ 24 → Lays r t x out after (extractChecks x ++ headerOn t x (length out))
+    → (laidSaid r ≡ writeSays t x (length out)) × (after ≡ writeLeaves t x out)
+unfolding writeSays writeLeaves writeChecks
+into-rest r out after x t h p =
+    let e = le-leb (t .count) 24 h in
+    (p .says ∙ rw e, p .leaves ∙ rw e)
+
+-- the table that a block holds: what was said of it, and the table after it
+pub table-fine : (t : MBR) (x : List ℕ) (room : ℕ) (s : Said ℕ) → s ≡ writeSays t x room → Fine s t
+table-fine t x room (refuses k) e = tt
+table-fine t x room (gives n) e = go (extendedIn t) (chain-held t x room n (sym e))
+  where
+    go : (o : Option MBRPartitionEntry) → AllHold (chainChecks (geometryOf t) o (diskSectors x) (logicals t)) → first-fail (chainGeometry o t) ≡ none
+    go none h = refl
+    go (some e) h = settle-none t (e .«starting_lba») (diskSectors x) (all-hold (settleChecks (geometryOf t) (e .«starting_lba») (diskSectors x) (logicals t)) h)
+
+pub table-said : (t u : MBR) (x : List ℕ) (room : ℕ) (s : Said ℕ) → s ≡ writeSays t x room → u ≡ tableBy s t (leftBy (extendedIn t) t) → u ≡ writeTable t x room
+unfolding writeSays writeTable
+table-said t u x room s e q =
+    q ∙ ap (λ (z : Said ℕ). tableBy z t (leftBy (extendedIn t) t)) e ∙ table-checked (writeChecks t x room) (length (extractOver x (tableStores t))) t (leftBy (extendedIn t) t)
+
+-- logical partitions replaced one by one
+pub some-more : (s l m : List LogicalPartition) (i : ℕ) → m ≡ take i s ++ drop i l → i < length s → i < length l → set m i (getD s i noLogical) ≡ take (i + 1) s ++ drop (i + 1) l
+some-more s l m i e h k =
+    let a = getD s i noLogical in
+    let n : length (take i s) ≡ i = length-take-le i s (omega arith) in
+    ap (λ (z : List LogicalPartition). set z i a) e
+    ∙ ap (λ (z : List LogicalPartition). set (take i s ++ z) i a) (drop-cons l i noLogical k)
+    ∙ set-at (take i s) (getD l i noLogical) (drop (suc i) l) a i n
+    ∙ sym (append-snoc (take i s) a (drop (suc i) l))
+    ∙ ap (λ (z : List LogicalPartition). z ++ drop (suc i) l) (sym (take-suc s i noLogical h))
+    ∙ ap (λ j. take j s ++ drop j l) (sym (add-one i))

@@ -11,11 +11,10 @@ use Rattle.base.proofs.Checks.{onFail, checked-fail, append-fails, append-holds
 use Rattle.layover.specs.declared.Laid.{Laid}
 use Rattle.layover.specs.Answers.{laidSaid}
 use Rattle.table.specs.declared.MBR.{MBR}
-use Rattle.write.specs.declared.Written.{Written}
-use Rattle.write.specs.Answers.{Put, Told, tableBy}
+use Rattle.write.specs.Answers.{Put, tableBy}
 
 -- the table that an answer by refusals leads to
-table-checked : (cs : List Check) (n : ℕ) (t u : MBR) → tableBy (answer cs n) t u ≡ checked cs (λ k. t) u
+pub table-checked : (cs : List Check) (n : ℕ) (t u : MBR) → tableBy (answer cs n) t u ≡ checked cs (λ k. t) u
 table-checked cs n t u =
     ap (λ (s : Said ℕ). tableBy s t u) (checked-fail cs refuses (gives n)) ∙ go (first-fail cs) ∙ sym (checked-fail cs (λ k. t) u)
   where
@@ -36,27 +35,3 @@ module _ (a : Laid) (out after new : List ℕ) (cs ds : List Check) where
     says = p .says ∙ sym (append-holds cs ds refuses (gives (length new)) (none-fails cs e));
     leaves = p .leaves ∙ sym (append-holds cs ds (λ (j : ℕ). out) (put out 0 new) (none-fails cs e));
   }
-
-module _ (w : Written) (out after new : List ℕ) (t u : MBR) where
-  -- an answer with its table
-  pub told-put : (a : Laid) (cs : List Check) → Put a out after cs new → laidSaid (w .answer) ≡ laidSaid a → w .table ≡ tableBy (laidSaid a) t u → Told w out after cs new t u
-  told-put a cs p s q = record {
-    says = s ∙ p .says;
-    table = q ∙ ap (λ (r : Said ℕ). tableBy r t u) (p .says) ∙ table-checked cs (length new) t u;
-    leaves = p .leaves;
-  }
-
-  module _ (cs ds : List Check) where
-    pub told-fails : (k : ℕ) → first-fail cs ≡ some k → laidSaid (w .answer) ≡ refuses k → w .table ≡ t → after ≡ out → Told w out after (cs ++ ds) new t u
-    told-fails k e s q l = record {
-      says = s ∙ sym (append-fails cs ds k refuses (gives (length new)) e);
-      table = q ∙ sym (append-fails cs ds k (λ (j : ℕ). t) u e);
-      leaves = l ∙ sym (append-fails cs ds k (λ (j : ℕ). out) (put out 0 new) e);
-    }
-
-    pub told-skip : first-fail cs ≡ none → Told w out after ds new t u → Told w out after (cs ++ ds) new t u
-    told-skip e p = record {
-      says = p .says ∙ sym (append-holds cs ds refuses (gives (length new)) (none-fails cs e));
-      table = p .table ∙ sym (append-holds cs ds (λ (j : ℕ). t) u (none-fails cs e));
-      leaves = p .leaves ∙ sym (append-holds cs ds (λ (j : ℕ). out) (put out 0 new) (none-fails cs e));
-    }

@@ -2,17 +2,17 @@
 use Prim.Native.Nat.{ℕ}
 use mathlib.Core.List.{List, [], _∷_}
 use mathlib.Core.Path.{_≡_}
+use mathlib.Core.Option.{none}
 use lib.ListN.{length}
 use Rattle.base.specs.Put.{put}
 use Rattle.base.specs.Said.{Said, gives, refuses}
-use Rattle.base.specs.Checks.{Check, answer, checked}
+use Rattle.base.specs.Checks.{Check, answer, checked, first-fail}
 use Rattle.layover.specs.declared.Laid.{Laid}
 use Rattle.layover.specs.Answers.{laidSaid}
 use Rattle.mbr.specs.declared.MBRHeader.{MBRHeader}
 use Rattle.table.specs.declared.MBR.{MBR}
 use Rattle.table.specs.Table.{extendedIn}
-use Rattle.write.specs.declared.Written.{Written}
-use Rattle.write.specs.Write.{headerStore, tableStores, writeChecks, headerOnlyChecks, leftBy}
+use Rattle.write.specs.Write.{headerStore, tableStores, writeChecks, headerOnlyChecks, leftBy, chainGeometry}
 use Rattle.records.specs.Records.{extractOver}
 
 -- the new extract's length, or the first refusal
@@ -39,17 +39,16 @@ pub record Put (a : Laid) (out after : List ℕ) (cs : List Check) (new : List �
   pub says : laidSaid a ≡ answer cs (length new)
   pub leaves : after ≡ checked cs (λ k. out) (put out 0 new)
 
--- the same with a table: t if refused, else u
-pub record Told (w : Written) (out after : List ℕ) (cs : List Check) (new : List ℕ) (t u : MBR) : Type 0 where
-  pub says : laidSaid (w .answer) ≡ answer cs (length new)
-  pub table : w .table ≡ checked cs (λ k. t) u
-  pub leaves : after ≡ checked cs (λ k. out) (put out 0 new)
-
 -- the same of writing a table over x
-abbrev pub Tells : Written → MBR → List ℕ → List ℕ → List ℕ → List Check → Type 0
-Tells w t x out after cs = Told w out after cs (extractOver x (tableStores t)) t (leftBy (extendedIn t) t)
+abbrev pub Lays : Laid → MBR → List ℕ → List ℕ → List ℕ → List Check → Type 0
+Lays a t x out after cs = Put a out after cs (extractOver x (tableStores t))
 
 -- the table that an answer leads to
 abbrev pub tableBy : Said ℕ → MBR → MBR → MBR
 tableBy (gives n) t u = u
 tableBy (refuses k) t u = t
+
+-- a table that was written has no refused address
+abbrev pub Fine : Said ℕ → MBR → Type 0
+Fine (gives n) t = first-fail (chainGeometry (extendedIn t) t) ≡ none
+Fine (refuses k) t = Unit {0}

@@ -15,7 +15,7 @@ use Rattle.table.specs.declared.MBR.{MBR}
 use Rattle.table.specs.Table.{most, logicals, extendedIn}
 use Rattle.address.specs.declared.Geometry.{Geometry}
 use Rattle.push.specs.Push.{geometryOf}
-use Rattle.settle.specs.Settle.{settled, settleChecks, relisted}
+use Rattle.settle.specs.Settle.{settled, settleChecks, relisted, geometryChecks}
 unfoldable pub use Rattle.records.specs.Records.{ebrStores, laidAll, extractOver}
 
 -- record 0
@@ -62,6 +62,11 @@ writeChecks t x room = (6 ! leb (t .count) most) ∷ (extractChecks x ++ headerO
 abbrev pub leftBy : Option MBRPartitionEntry → MBR → MBR
 leftBy none t = t
 leftBy (some e) t = relisted t (settled (geometryOf t) (e .«starting_lba») (logicals t))
+
+-- the refusals of the addresses alone
+abbrev pub chainGeometry : Option MBRPartitionEntry → MBR → List Check
+chainGeometry none t = []
+chainGeometry (some e) t = geometryChecks t (e .«starting_lba»)
 
 -- header only: extract, header, D 0, room
 unfoldable pub headerOnlyChecks : MBRHeader → List ℕ → ℕ → List Check

@@ -15,15 +15,18 @@ ghost use mathlib.Core.List.{[], _∷_, _++_};
 ghost use Prim.Native.Nat.{_+_, _*_, _≤_, _<_};
 ghost use lib.ListN.{length};
 ghost use Rattle.base.specs.Said.{refuses};
+ghost use Rattle.base.specs.Checks.{first-fail};
 ghost use Rattle.mbr.specs.Mbr.{mbrBytes, headerChecks};
-ghost use Rattle.extract.specs.Extract.{Good, count};
+ghost use Rattle.extract.specs.Extract.{Good, diskSectors};
 ghost use Rattle.extract.specs.Answers.{headerOf};
 ghost use Rattle.layover.specs.Answers.{laidSaid};
 ghost use Rattle.table.specs.Table.{extendedIn};
-ghost use Rattle.write.specs.Write.{headerStore, roomChecks, diskChecks, chainOn, diskOn, headerOn};
+ghost use Rattle.block.specs.Block.{tableIn};
+ghost use Rattle.settle.specs.Settle.{Held, settledIn, geometryChecks, relisted};
 ghost use Rattle.records.specs.Records.{extractOver};
-ghost use Rattle.write.specs.Answers.{writeSays, writeTable, writeLeaves, headerSays, headerLeaves, Put, Tells, tableBy};
 ghost use Rattle.records.specs.Sources.{storesOf, Writing};
+ghost use Rattle.write.specs.Write.{headerStore, roomChecks, diskChecks, chainOn, diskOn, headerOn, leftBy, chainGeometry};
+ghost use Rattle.write.specs.Answers.{writeSays, writeTable, writeLeaves, headerSays, headerLeaves, Put, Lays, tableBy, Fine};
 
 // What writing answers: the new extract's length, or the refusal; and the table.
 pub struct Written {
@@ -40,21 +43,39 @@ fn header_record(h: MBRHeader) -> [u8; 512]
     r
 }
 
-// The new extract of a header and a table's first m logical partitions, if there is room: 22, 19.
+// The header of a block.
+fn header(b: &[u8]) -> MBRHeader
+    requires { ⌜ Held (now b) ⌝ }
+    ensures { λ r. ⌜ r ≡ tableIn (now (b .entry)) .header ⌝ }
+{
+    partread::get_header(slotread::part_of(b, 20, 520))
+}
+
+// A header alone, over a good extract of a disk that has sectors: 22, 19.
+fn lay_header(h: MBRHeader, x: &[u8], out: &mut [u8]) -> Laid
+    requires { ⌜ Good (now x) × (0 < diskSectors (now x)) ⌝ }
+    ensures { λ r. ⌜ Put r (now (out .entry)) (now (out .exit)) (roomChecks (now (x .entry)) (headerStore h ∷ []) (length (now (out .entry)))) (extractOver (now (x .entry)) (headerStore h ∷ [])) ⌝ }
+{
+    let first = header_record(h);
+    lay::lay_over(x, 0, &first, out)
+}
+
+// The new extract of record 0 and the m logical partitions of a block, if there is room: 22, 19.
 fn put_table(
     out: &mut [u8],
     x: &[u8],
     k: Extract,
     first: &[u8],
-    t: MBR,
+    b: &[u8],
     e: MBRPartitionEntry,
     m: usize,
 ) -> Laid
     requires { ⌜ Writing (now x) (k .count) m (now first) × (k ≡ headerOf (now x)) ⌝ }
-    ensures { λ r. ⌜ Put r (now (out .entry)) (now (out .exit)) (roomChecks (now (x .entry)) (storesOf (now (first .entry)) e t m) (length (now (out .entry)))) (extractOver (now (x .entry)) (storesOf (now (first .entry)) e t m)) ⌝ }
+    requires { ⌜ Held (now b) × (m ≡ tableIn (now b) .count) × (first-fail (geometryChecks (tableIn (now b)) (e .«starting_lba»)) ≡ none) ⌝ }
+    ensures { λ r. ⌜ Put r (now (out .entry)) (now (out .exit)) (roomChecks (now (x .entry)) (storesOf (now (first .entry)) e (settledIn (tableIn (now (b .entry))) (e .«starting_lba»))) (length (now (out .entry)))) (extractOver (now (x .entry)) (storesOf (now (first .entry)) e (settledIn (tableIn (now (b .entry))) (e .«starting_lba»)))) ⌝ }
 {
     let n = k.count;
-    let p = records::plan_for(x, n, t, m);
+    let p = records::plan_for(x, n, b, e.starting_lba, m);
     let c = p.count;
     if 64 < c {
         return Laid::Refused(Refusal { number: 22 });
@@ -65,8 +86,100 @@ fn put_table(
     }
     extractwrite::put_header(out, k.sector_size, k.disk_size, c);
     plan::put_lbas(out, p);
-    records::put_records(out, 24 + c * 4, x, n, p, first, t, e, m);
+    records::put_records(out, 24 + c * 4, x, n, p, first, b, e, m);
     Laid::Length(total)
+}
+
+// A block with an extended entry: geometry and each EBR, then room.
+fn write_chain(
+    b: &[u8],
+    h: MBRHeader,
+    e: MBRPartitionEntry,
+    x: &[u8],
+    k: Extract,
+    out: &mut [u8],
+) -> Laid
+    requires { ⌜ Good (now x) × (k ≡ headerOf (now x)) × (extendedIn (tableIn (now b)) ≡ some e) × Held (now b) × (h ≡ tableIn (now b) .header) ⌝ }
+    ensures { λ r. ⌜ Lays r (tableIn (now (b .entry))) (now (x .entry)) (now (out .entry)) (now (out .exit)) (chainOn (tableIn (now (b .entry))) (now (x .entry)) (length (now (out .entry)))) ⌝ }
+{
+    let a = settle::settle(b, e.starting_lba, k.disk_size);
+    match a {
+        Answer::Refused(q) => Laid::Refused(Refusal { number: q }),
+        Answer::Done => {
+            let first = header_record(h);
+            let m = inside::count(b);
+            put_table(out, x, k, &first, b, e, m)
+        }
+    }
+}
+
+// D 0: 2; then by the extended entry.
+fn write_on(b: &[u8], h: MBRHeader, x: &[u8], k: Extract, out: &mut [u8]) -> Laid
+    requires { ⌜ Good (now x) × (k ≡ headerOf (now x)) × Held (now b) × (h ≡ tableIn (now b) .header) ⌝ }
+    ensures { λ r. ⌜ Lays r (tableIn (now (b .entry))) (now (x .entry)) (now (out .entry)) (now (out .exit)) (diskOn (tableIn (now (b .entry))) (now (x .entry)) (length (now (out .entry)))) ⌝ }
+{
+    if k.disk_size == 0 {
+        return Laid::Refused(Refusal { number: 2 });
+    }
+    let f = h.get_extended_partition();
+    match f {
+        Found::Nothing => lay_header(h, x, out),
+        Found::Entry(e) => write_chain(b, h, e, x, k, out),
+    }
+}
+
+// Over a good extract: header 3, 4, then the rest.
+fn write_good(b: &[u8], x: &[u8], k: Extract, out: &mut [u8]) -> Laid
+    requires { ⌜ Good (now x) × (k ≡ headerOf (now x)) × Held (now b) ⌝ }
+    ensures { λ r. ⌜ Lays r (tableIn (now (b .entry))) (now (x .entry)) (now (out .entry)) (now (out .exit)) (headerOn (tableIn (now (b .entry))) (now (x .entry)) (length (now (out .entry)))) ⌝ }
+{
+    let h = header(b);
+    let a = h.check();
+    match a {
+        Answer::Refused(q) => Laid::Refused(Refusal { number: q }),
+        Answer::Done => write_on(b, h, x, k, out),
+    }
+}
+
+// Writes the table of a block over an extract: the new one at the start of the output, all else of it as before; all as
+// before if refused.
+pub fn write_block(b: &[u8], x: &[u8], out: &mut [u8]) -> Laid
+    requires { ⌜ Held (now b) ⌝ }
+    ensures { λ r. ⌜ laidSaid r ≡ writeSays (tableIn (now (b .entry))) (now (x .entry)) (length (now (out .entry))) ⌝ }
+    ensures { λ r. ⌜ now (out .exit) ≡ writeLeaves (tableIn (now (b .entry))) (now (x .entry)) (now (out .entry)) ⌝ }
+{
+    let c = extract::check(x);
+    match c {
+        Header::Refused(r) => Laid::Refused(r),
+        Header::Good(k) => write_good(b, x, k, out),
+    }
+}
+
+// The table of a block with its logical partitions as writing leaves them.
+fn relist(b: &[u8], t: MBR, x: u32) -> MBR
+    requires { ⌜ Held (now b) × (t ≡ tableIn (now b)) × (first-fail (geometryChecks (tableIn (now b)) x) ≡ none) ⌝ }
+    ensures { λ r. ⌜ r ≡ relisted (tableIn (now (b .entry))) (settledIn (tableIn (now (b .entry))) x) ⌝ }
+{
+    let n = t.count;
+    let mut u = t;
+    for i in 0..n {
+        let l = settle::settled_slot(b, x, i);
+        u.logical_partitions[i] = l;
+    }
+    u
+}
+
+// The table of a block as writing leaves it.
+pub fn left(b: &[u8]) -> MBR
+    requires { ⌜ Held (now b) × (first-fail (chainGeometry (extendedIn (tableIn (now b))) (tableIn (now b))) ≡ none) ⌝ }
+    ensures { λ r. ⌜ r ≡ leftBy (extendedIn (tableIn (now (b .entry)))) (tableIn (now (b .entry))) ⌝ }
+{
+    let t = partread::get_table(b);
+    let f = inside::extended(b);
+    match f {
+        Found::Nothing => t,
+        Found::Entry(e) => relist(b, t, e.starting_lba),
+    }
 }
 
 fn refuse(t: MBR, k: u8) -> Written
@@ -78,84 +191,27 @@ fn refuse(t: MBR, k: u8) -> Written
     }
 }
 
-// The answer with its table: as given if refused, else the new one.
-fn finish(r: Laid, t: MBR, u: MBR) -> Written
-    ensures { λ w. ⌜ (laidSaid (w .answer) ≡ laidSaid r) × (w .table ≡ tableBy (laidSaid r) t u) ⌝ }
+// The answer with its table: as given if refused, else as writing leaves it.
+fn finish(r: Laid, t: MBR, b: &[u8]) -> Written
+    requires { ⌜ Held (now b) × (tableIn (now b) ≡ t) × Fine (laidSaid r) t ⌝ }
+    ensures { λ w. ⌜ (laidSaid (w .answer) ≡ laidSaid r) × (w .table ≡ tableBy (laidSaid r) t (leftBy (extendedIn t) t)) ⌝ }
 {
     match r {
         Laid::Refused(q) => Written {
             answer: Laid::Refused(q),
             table: t,
         },
-        Laid::Length(n) => Written {
-            answer: Laid::Length(n),
-            table: u,
-        },
-    }
-}
-
-// A table without an extended entry: record 0 only.
-fn write_plain(t: MBR, x: &[u8], k: Extract, out: &mut [u8]) -> Written
-    requires { ⌜ Good (now x) × (k ≡ headerOf (now x)) × (extendedIn t ≡ none) ⌝ }
-    ensures { λ r. ⌜ Tells r t (now (x .entry)) (now (out .entry)) (now (out .exit)) (chainOn t (now (x .entry)) (length (now (out .entry)))) ⌝ }
-{
-    let h = t.header;
-    let first = header_record(h);
-    let none = MBRPartitionEntry::empty();
-    let r = put_table(out, x, k, &first, t, none, 0);
-    finish(r, t, t)
-}
-
-// A table with an extended entry: geometry and each EBR, then room.
-fn write_chain(t: MBR, e: MBRPartitionEntry, x: &[u8], k: Extract, out: &mut [u8]) -> Written
-    requires { ⌜ Good (now x) × (k ≡ headerOf (now x)) × (extendedIn t ≡ some e) × (t .count ≤ 24) ⌝ }
-    ensures { λ r. ⌜ Tells r t (now (x .entry)) (now (out .entry)) (now (out .exit)) (chainOn t (now (x .entry)) (length (now (out .entry)))) ⌝ }
-{
-    let s = settle::settle(t, e.starting_lba, k.disk_size);
-    let a = s.answer;
-    match a {
-        Answer::Refused(q) => refuse(t, q),
-        Answer::Done => {
-            let u = s.table;
-            let h = t.header;
-            let first = header_record(h);
-            let m = t.count;
-            let r = put_table(out, x, k, &first, u, e, m);
-            finish(r, t, u)
+        Laid::Length(n) => {
+            let u = left(b);
+            Written {
+                answer: Laid::Length(n),
+                table: u,
+            }
         }
     }
 }
 
-// D 0: 2; then by the extended entry.
-fn write_on(t: MBR, x: &[u8], k: Extract, out: &mut [u8]) -> Written
-    requires { ⌜ Good (now x) × (k ≡ headerOf (now x)) × (t .count ≤ 24) ⌝ }
-    ensures { λ r. ⌜ Tells r t (now (x .entry)) (now (out .entry)) (now (out .exit)) (diskOn t (now (x .entry)) (length (now (out .entry)))) ⌝ }
-{
-    if k.disk_size == 0 {
-        return refuse(t, 2);
-    }
-    let h = t.header;
-    let f = h.get_extended_partition();
-    match f {
-        Found::Nothing => write_plain(t, x, k, out),
-        Found::Entry(e) => write_chain(t, e, x, k, out),
-    }
-}
-
-// Over a good extract: header 3, 4, then the rest.
-fn write_good(t: MBR, x: &[u8], k: Extract, out: &mut [u8]) -> Written
-    requires { ⌜ Good (now x) × (k ≡ headerOf (now x)) × (t .count ≤ 24) ⌝ }
-    ensures { λ r. ⌜ Tells r t (now (x .entry)) (now (out .entry)) (now (out .exit)) (headerOn t (now (x .entry)) (length (now (out .entry)))) ⌝ }
-{
-    let h = t.header;
-    let a = h.check();
-    match a {
-        Answer::Refused(q) => refuse(t, q),
-        Answer::Done => write_on(t, x, k, out),
-    }
-}
-
-// Writes a table over an extract: the new one at the start of the output, all else of it as before; all as before if refused.
+// Writes a table over an extract, through a block that holds it.
 pub fn write_into(t: MBR, x: &[u8], out: &mut [u8]) -> Written
     ensures said { λ r. ⌜ laidSaid (r .answer) ≡ writeSays t (now (x .entry)) (length (now (out .entry))) ⌝ }
     ensures table { λ r. ⌜ r .table ≡ writeTable t (now (x .entry)) (length (now (out .entry))) ⌝ }
@@ -164,11 +220,10 @@ pub fn write_into(t: MBR, x: &[u8], out: &mut [u8]) -> Written
     if LOGICALS < t.count {
         return refuse(t, 6);
     }
-    let c = extract::check(x);
-    match c {
-        Header::Refused(r) => refuse(t, r.number),
-        Header::Good(k) => write_good(t, x, k, out),
-    }
+    let mut b = [0u8; 12108];
+    hold::hold(&mut b, t);
+    let r = write_block(&b, x, out);
+    finish(r, t, &b)
 }
 
 // A header over a good extract: 3, 4, then 2, 22, 19.
@@ -183,8 +238,7 @@ fn header_good(h: MBRHeader, x: &[u8], k: Extract, out: &mut [u8]) -> Laid
             if k.disk_size == 0 {
                 return Laid::Refused(Refusal { number: 2 });
             }
-            let first = header_record(h);
-            lay::lay_over(x, 0, &first, out)
+            lay_header(h, x, out)
         }
     }
 }

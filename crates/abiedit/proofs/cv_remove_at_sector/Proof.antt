@@ -1,9 +1,11 @@
 use mathlib.Core.Path.{sym, ap, _∙_}
-use Rattle.base.specs.Said.{Said, andThen, refusal}
+use Rattle.base.specs.Said.{refusal, valueOr}
 use Rattle.table.specs.declared.MBR.{MBR}
 use Rattle.lookup.specs.Remove.{removeAtSays}
-use Rattle.abitable.specs.Blocks.{blockSays}
-use Rattle.abitable.proofs.Laws.{block-refused, block-done, block-length, table-refused, alone-done}
+use Rattle.abitable.specs.Blocks.{number}
+use Rattle.abitable.proofs.Laws.{on-refused, on-done, after-refused, after-done}
+use Rattle.abiedit.specs.Edit.{removedAtOn}
+use Rattle.abiedit.proofs.Changed.{removed-at-table}
 use borrow.Author.Needs.{needs}
 use Rattle.abiedit.proofs.cv_remove_at_sector.Statement.{statement}
 use Rattle.abiedit.proofs.cv_remove_at_sector.Tie as tie
@@ -17,30 +19,31 @@ enum-known-k c = search needs
 enum-told : tie.Need-enum-told
 enum-told c = search needs
 
-get-table-requires : tie.Need-get-table-requires
-get-table-requires c κs =
-    block-length (c .before .before .before .before .before .args .b .now) (sym (c .before .before .check .ensures) ∙ ap refusal (c .enum-told .given .1))
-
 remove-at-on-requires : tie.Need-remove-at-on-requires
-remove-at-on-requires c κs = search needs
-
-returns : tie.Need-returns
-returns c =
-    let a = c .before .before .before .before .before .before .args in
-    let p = c .before .before .before .check .ensures in
-    let s = block-refused (a .b .now) _ (sym p ∙ ap refusal (c .before .k .given .1)) in
-    table-refused (andThen (blockSays (a .b .now)) (λ (t : MBR). removeAtSays t (a .sector))) _ (a .out .now) (ap (λ (z : Said MBR). andThen z (λ (t : MBR). removeAtSays t (a .sector))) s)
+remove-at-on-requires c κs = sym (c .before .before .before .check .ensures) ∙ ap refusal (c .before .enum-told .given .1)
 
 same-length : tie.Need-same-length
 same-length c = search needs
 
+returns : tie.Need-returns
+returns c =
+    let a = c .before .before .before .before .before .before .args in
+    let b = a .b .now in
+    let h = sym (c .before .before .before .check .ensures) ∙ ap refusal (c .before .k .given .1) in
+    let w = on-refused b (λ (t : MBR). removeAtSays t (a .sector)) (removedAtOn b (a .sector)) _ h in
+    (sym (ap (number {A = MBR}) (w .0)), (w .1, after-refused b (λ (t : MBR). valueOr t (removeAtSays t (a .sector))) _ h))
+
+same-length-2 : tie.Need-same-length-2
+same-length-2 c = search needs
+
 returns-2 : tie.Need-returns-2
 returns-2 c =
-    let a = c .before .before .before .before .before .before .before .before .before .before .args in
-    let p = c .before .before .before .before .before .before .before .check .ensures in
-    let s = block-done (a .b .now) _ (sym p ∙ ap refusal (c .before .before .before .before .before .enum-told .given .1)) (c .before .before .before .before .get-table .ensures) in
-    let q = c .before .before .remove-at-on .ensures in
-    alone-done (blockSays (a .b .now)) _ (λ (t : MBR). removeAtSays t (a .sector)) _ (a .out .now) _ s (q .0) (q .1)
+    let a = c .before .before .before .before .before .before .before .before .before .args in
+    let b = a .b .now in
+    let h = sym (c .before .before .before .before .before .before .check .ensures) ∙ ap refusal (c .before .before .before .before .enum-told .given .1) in
+    let p = c .before .before .remove-at-on .ensures in
+    let w = on-done b _ (λ (t : MBR). removeAtSays t (a .sector)) (removedAtOn b (a .sector)) h (p .1) in
+    (p .0 ∙ sym (ap (number {A = MBR}) (w .0)), (w .1, after-done b _ _ (λ (t : MBR). valueOr t (removeAtSays t (a .sector))) h (p .1) (removed-at-table b (a .sector) h)))
 
 pub cv-remove-at-sector-spec : {M : Type 1} → statement M
 cv-remove-at-sector-spec =
@@ -49,8 +52,8 @@ cv-remove-at-sector-spec =
     check-requires
     enum-known-k
     enum-told
-    get-table-requires
     remove-at-on-requires
-    returns
     same-length
+    returns
+    same-length-2
     returns-2)

@@ -1,9 +1,10 @@
 use mathlib.Core.Path.{sym, ap, _∙_}
-use Rattle.base.specs.Said.{Said, andThen, refusal}
+use Rattle.base.specs.Said.{refusal, valueOr}
 use Rattle.table.specs.declared.MBR.{MBR}
 use Rattle.lookup.specs.Disk.{updateSays}
-use Rattle.abitable.specs.Blocks.{blockSays}
-use Rattle.abitable.proofs.Laws.{block-refused, block-done, block-length, table-refused, alone-done}
+use Rattle.abitable.specs.Blocks.{blockSays, number}
+use Rattle.abitable.proofs.Laws.{on-refused, on-done, after-refused, after-done}
+use Rattle.abiedit.specs.Edit.{updatedOn}
 use borrow.Author.Needs.{needs}
 use Rattle.abiedit.proofs.cv_update_from.Statement.{statement}
 use Rattle.abiedit.proofs.cv_update_from.Tie as tie
@@ -17,30 +18,33 @@ enum-known-k c = search needs
 enum-told : tie.Need-enum-told
 enum-told c = search needs
 
-get-table-requires : tie.Need-get-table-requires
-get-table-requires c κs =
-    block-length (c .before .before .before .before .before .before .args .b .now) (sym (c .before .before .check .ensures) ∙ ap refusal (c .enum-told .given .1))
-
 update-on-requires : tie.Need-update-on-requires
-update-on-requires c κs = search needs
-
-returns : tie.Need-returns
-returns c =
-    let a = c .before .before .before .before .before .before .before .args in
-    let p = c .before .before .before .check .ensures in
-    let s = block-refused (a .b .now) _ (sym p ∙ ap refusal (c .before .k .given .1)) in
-    table-refused (andThen (blockSays (a .b .now)) (λ (t : MBR). updateSays t (a .x .now))) _ (a .out .now) (ap (λ (z : Said MBR). andThen z (λ (t : MBR). updateSays t (a .x .now))) s)
+update-on-requires c κs = sym (c .before .before .before .check .ensures) ∙ ap refusal (c .before .enum-told .given .1)
 
 same-length : tie.Need-same-length
 same-length c = search needs
 
+returns : tie.Need-returns
+returns c =
+    let a = c .before .before .before .before .before .before .before .args in
+    let b = a .b .now in
+    let x = a .x .now in
+    let h = sym (c .before .before .before .check .ensures) ∙ ap refusal (c .before .k .given .1) in
+    let w = on-refused b (λ (t : MBR). updateSays t x) (updatedOn b x) _ h in
+    (sym (ap (number {A = MBR}) (w .0)), (w .1, after-refused b (λ (t : MBR). valueOr t (updateSays t x)) _ h))
+
+same-length-2 : tie.Need-same-length-2
+same-length-2 c = search needs
+
 returns-2 : tie.Need-returns-2
 returns-2 c =
-    let a = c .before .before .before .before .before .before .before .before .before .before .before .args in
-    let p = c .before .before .before .before .before .before .before .check .ensures in
-    let s = block-done (a .b .now) _ (sym p ∙ ap refusal (c .before .before .before .before .before .enum-told .given .1)) (c .before .before .before .before .get-table .ensures) in
-    let q = c .before .before .update-on .ensures in
-    alone-done (blockSays (a .b .now)) _ (λ (t : MBR). updateSays t (a .x .now)) _ (a .out .now) _ s (q .0) (q .1)
+    let a = c .before .before .before .before .before .before .before .before .before .before .args in
+    let b = a .b .now in
+    let x = a .x .now in
+    let h = sym (c .before .before .before .before .before .before .check .ensures) ∙ ap refusal (c .before .before .before .before .enum-told .given .1) in
+    let p = c .before .before .update-on .ensures in
+    let w = on-done b _ (λ (t : MBR). updateSays t x) (updatedOn b x) h (p .1 .0) in
+    (p .0 ∙ sym (ap (number {A = MBR}) (w .0)), (w .1, after-done b _ _ (λ (t : MBR). valueOr t (updateSays t x)) h (p .1 .0) (ap blockSays (sym (p .1 .0)) ∙ p .1 .1)))
 
 pub cv-update-from-spec : {M : Type 1} → statement M
 cv-update-from-spec =
@@ -49,8 +53,8 @@ cv-update-from-spec =
     check-requires
     enum-known-k
     enum-told
-    get-table-requires
     update-on-requires
-    returns
     same-length
+    returns
+    same-length-2
     returns-2)

@@ -1,9 +1,9 @@
-use mathlib.Core.Path.{sym, ap, _∙_}
+use mathlib.Core.Path.{refl, sym, ap, _∙_}
 use lib.ListN.{length}
 use Rattle.base.specs.Said.{refusal}
 use Rattle.abitable.specs.Blocks.{blockSays}
 use Rattle.abitable.proofs.Laws.{block-refused, block-done, block-length}
-use Rattle.abifree.proofs.Laws.{runs-refused, runs-done}
+use Rattle.abifree.proofs.Laws.{block-count, runs-refused, runs-done}
 use borrow.Author.Needs.{needs}
 use Rattle.abifree.proofs.cv_find_free_sectors.Statement.{statement}
 use Rattle.abifree.proofs.cv_find_free_sectors.Tie as tie
@@ -20,12 +20,11 @@ upper-requires c κs = search needs
 enum-told : tie.Need-enum-told
 enum-told c = search needs
 
-get-table-requires : tie.Need-get-table-requires
-get-table-requires c κs =
-    block-length (c .before .before .before .before .before .args .b .now) (sym (c .before .before .check .ensures) ∙ ap refusal (c .enum-told .given .1))
-
 free-on-requires : tie.Need-free-on-requires
-free-on-requires c κs = search needs
+free-on-requires c κs =
+    let b = c .before .before .before .before .before .before .args .b .now in
+    let h = sym (c .before .before .before .check .ensures) ∙ ap refusal (c .before .enum-told .given .1) in
+    (block-length b h, block-count b h)
 
 returns : tie.Need-returns
 returns c =
@@ -39,9 +38,9 @@ same-length c = search needs
 
 returns-2 : tie.Need-returns-2
 returns-2 c =
-    let a = c .before .before .before .before .before .before .before .before .before .before .args in
-    let p = c .before .before .before .before .before .before .before .check .ensures in
-    let s = block-done (a .b .now) _ (sym p ∙ ap refusal (c .before .before .before .before .before .enum-told .given .1)) (c .before .before .before .before .get-table .ensures) in
+    let a = c .before .before .before .before .before .before .before .before .before .args in
+    let p = c .before .before .before .before .before .before .check .ensures in
+    let s = block-done (a .b .now) _ (sym p ∙ ap refusal (c .before .before .before .before .enum-told .given .1)) refl in
     let q = c .before .before .free-on .ensures in
     runs-done (blockSays (a .b .now)) _ _ (a .out .now) _ s (q .0) (q .1)
 
@@ -53,7 +52,6 @@ cv-find-free-sectors-spec =
     enum-known-k
     upper-requires
     enum-told
-    get-table-requires
     free-on-requires
     returns
     same-length

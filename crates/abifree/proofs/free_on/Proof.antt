@@ -3,14 +3,15 @@ use lib.ListN.{length}
 use native.Mathlib.Omega.{arith}
 use Prim.Native.Nat.{_≤_}
 use Rattle.base.specs.Said.{refusal}
+use Rattle.block.specs.Block.{tableIn}
 use Rattle.free.specs.Free.{free}
 use Rattle.abifree.proofs.Laws.{free-refused, free-short, free-done}
 use borrow.Author.Needs.{needs}
 use Rattle.abifree.proofs.free_on.Statement.{statement}
 use Rattle.abifree.proofs.free_on.Tie as tie
 
-find-free-sectors-requires : tie.Need-find-free-sectors-requires
-find-free-sectors-requires c κs = search needs
+free-of-requires : tie.Need-free-of-requires
+free-of-requires c κs = search needs
 
 enum-known-answer : tie.Need-enum-known-answer
 enum-known-answer c = search needs
@@ -20,9 +21,9 @@ upper-requires c κs = search needs
 
 returns : tie.Need-returns
 returns c =
-    let a = c .before .before .before .before .before .before .args in
-    let f = c .before .before .before .before .find-free-sectors .ensures in
-    free-refused (free (a .t)) _ _ (a .out .now) (sym (f .0 .0) ∙ ap refusal (c .before .before .answer .given .1)) (c .upper .ensures)
+    let a = c .before .before .before .before .before .before .before .args in
+    let f = c .before .before .before .before .free-of .ensures in
+    free-refused (free (tableIn (a .b .now))) _ _ (a .out .now) (sym (f .0 .0) ∙ ap refusal (c .before .before .answer .given .1)) (c .upper .ensures)
 
 enum-told : tie.Need-enum-told
 enum-told c = search needs
@@ -32,9 +33,9 @@ upper-requires-2 c κs = search needs
 
 returns-2 : tie.Need-returns-2
 returns-2 c =
-    let a = c .before .before .before .before .before .before .args in
-    let f = c .before .before .before .before .find-free-sectors .ensures in
-    free-short (free (a .t)) _ (a .out .now) (sym (f .0 .0) ∙ ap refusal (c .before .before .enum-told .given .1)) (c .before .if1 .taken) (c .upper2 .ensures)
+    let a = c .before .before .before .before .before .before .before .args in
+    let f = c .before .before .before .before .free-of .ensures in
+    free-short (free (tableIn (a .b .now))) _ (a .out .now) (sym (f .0 .0) ∙ ap refusal (c .before .before .enum-told .given .1)) (c .before .if1 .taken) (c .upper2 .ensures)
 
 put-runs-requires : tie.Need-put-runs-requires
 put-runs-requires c κs = search needs
@@ -44,15 +45,15 @@ same-length c = search needs
 
 returns-3 : tie.Need-returns-3
 returns-3 c =
-    let a = c .before .before .before .before .before .before .before .before .before .before .args in
-    let f = c .before .before .before .before .before .before .before .before .find-free-sectors .ensures in
-    free-done (free (a .t)) _ (a .out .now) _ (sym (f .0 .0) ∙ ap refusal (c .before .before .before .before .before .before .enum-told .given .1)) (c .before .before .before .before .before .if1 .left) (f .0 .1) (c .before .before .put-runs .ensures)
+    let a = c .before .before .before .before .before .before .before .before .before .before .before .args in
+    let f = c .before .before .before .before .before .before .before .before .free-of .ensures in
+    free-done (free (tableIn (a .b .now))) _ (a .out .now) _ (sym (f .0 .0) ∙ ap refusal (c .before .before .before .before .before .before .enum-told .given .1)) (c .before .before .before .before .before .if1 .left) (f .0 .1) (c .before .before .put-runs .ensures)
 
 pub free-on-spec : {M : Type 1} → statement M
 free-on-spec =
     tie.close
     (tie.spec
-    find-free-sectors-requires
+    free-of-requires
     enum-known-answer
     upper-requires
     returns

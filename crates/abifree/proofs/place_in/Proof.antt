@@ -1,10 +1,11 @@
-use mathlib.Core.Path.{sym, ap, _∙_}
+use mathlib.Core.Path.{refl, sym, ap, _∙_}
 use Prim.Native.Nat.{ℕ}
 use mathlib.Core.Option.{Option}
 use Rattle.base.specs.Said.{Said, refusal, andThen}
 use Rattle.table.specs.declared.MBR.{MBR}
 use Rattle.abi.specs.Packed.{packedOption}
 use Rattle.abitable.proofs.Laws.{block-refused, block-done, block-length}
+use Rattle.abifree.proofs.Laws.{block-count}
 use Rattle.abifree.specs.Free.{placeBy}
 use borrow.Author.Needs.{needs}
 use Rattle.abifree.proofs.place_in.Statement.{statement}
@@ -22,12 +23,11 @@ upper-requires c κs = search needs
 enum-told : tie.Need-enum-told
 enum-told c = search needs
 
-get-table-requires : tie.Need-get-table-requires
-get-table-requires c κs =
-    block-length (c .before .before .before .before .args .b .now) (sym (c .before .before .check .ensures) ∙ ap refusal (c .enum-told .given .1))
-
 place-of-requires : tie.Need-place-of-requires
-place-of-requires c κs = search needs
+place-of-requires c κs =
+    let b = c .before .before .before .before .args .b .now in
+    let h = sym (c .before .before .check .ensures) ∙ ap refusal (c .enum-told .given .1) in
+    (block-length b h, block-count b h)
 
 of-place-requires : tie.Need-of-place-requires
 of-place-requires c κs = search needs
@@ -41,9 +41,9 @@ returns c =
 
 returns-2 : tie.Need-returns-2
 returns-2 c =
-    let a = c .before .before .before .before .before .before .before .args in
-    let p = c .before .before .before .before .before .check .ensures in
-    let s = block-done (a .b .now) _ (sym p ∙ ap refusal (c .before .before .before .enum-told .given .1)) (c .before .before .get-table .ensures) in
+    let a = c .before .before .before .before .before .before .args in
+    let p = c .before .before .before .before .check .ensures in
+    let s = block-done (a .b .now) _ (sym p ∙ ap refusal (c .before .before .enum-told .given .1)) refl in
     c .of-place .ensures ∙ ap packedOption (c .before .place-of .ensures) ∙ sym (ap (λ (z : Said MBR). packedOption (andThen z (λ (t : MBR). placeBy (a .which) t (a .size)))) s)
 
 pub place-in-spec : {M : Type 1} → statement M
@@ -54,7 +54,6 @@ place-in-spec =
     enum-known-k
     upper-requires
     enum-told
-    get-table-requires
     place-of-requires
     of-place-requires
     returns

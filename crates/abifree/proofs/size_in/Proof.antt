@@ -1,8 +1,9 @@
-use mathlib.Core.Path.{sym, ap, _∙_}
+use mathlib.Core.Path.{refl, sym, ap, _∙_}
 use Rattle.base.specs.Said.{Said, refusal, andThen}
 use Rattle.table.specs.declared.MBR.{MBR}
 use Rattle.abi.specs.Packed.{packed}
 use Rattle.abitable.proofs.Laws.{block-refused, block-done, block-length}
+use Rattle.abifree.proofs.Laws.{block-count}
 use Rattle.abifree.specs.Free.{sizeFor}
 use borrow.Author.Needs.{needs}
 use Rattle.abifree.proofs.size_in.Statement.{statement}
@@ -20,12 +21,11 @@ upper-requires c κs = search needs
 enum-told : tie.Need-enum-told
 enum-told c = search needs
 
-get-table-requires : tie.Need-get-table-requires
-get-table-requires c κs =
-    block-length (c .before .before .before .before .args .b .now) (sym (c .before .before .check .ensures) ∙ ap refusal (c .enum-told .given .1))
-
 size-of-requires : tie.Need-size-of-requires
-size-of-requires c κs = search needs
+size-of-requires c κs =
+    let b = c .before .before .before .before .args .b .now in
+    let h = sym (c .before .before .check .ensures) ∙ ap refusal (c .enum-told .given .1) in
+    (block-length b h, block-count b h)
 
 of-size-requires : tie.Need-of-size-requires
 of-size-requires c κs = search needs
@@ -39,9 +39,9 @@ returns c =
 
 returns-2 : tie.Need-returns-2
 returns-2 c =
-    let a = c .before .before .before .before .before .before .before .args in
-    let p = c .before .before .before .before .before .check .ensures in
-    let s = block-done (a .b .now) _ (sym p ∙ ap refusal (c .before .before .before .enum-told .given .1)) (c .before .before .get-table .ensures) in
+    let a = c .before .before .before .before .before .before .args in
+    let p = c .before .before .before .before .check .ensures in
+    let s = block-done (a .b .now) _ (sym p ∙ ap refusal (c .before .before .enum-told .given .1)) refl in
     c .of-size .ensures ∙ ap packed (c .before .size-of .ensures) ∙ sym (ap (λ (z : Said MBR). packed (andThen z (sizeFor (a .whose)))) s)
 
 pub size-in-spec : {M : Type 1} → statement M
@@ -52,7 +52,6 @@ size-in-spec =
     enum-known-k
     upper-requires
     enum-told
-    get-table-requires
     size-of-requires
     of-size-requires
     returns

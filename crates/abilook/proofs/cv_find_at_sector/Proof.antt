@@ -1,9 +1,10 @@
-use mathlib.Core.Path.{sym, ap, _∙_}
+use mathlib.Core.Path.{refl, sym, ap, _∙_}
 use Rattle.abi.specs.Packed.{packedOption}
 use Rattle.base.specs.Said.{Said, refusal, andThen}
 use Rattle.table.specs.declared.MBR.{MBR}
 use Rattle.lookup.specs.Find.{findSays}
-use Rattle.abitable.proofs.Laws.{block-refused, block-done, block-length}
+use Rattle.abitable.proofs.Laws.{block-refused, block-done}
+use Rattle.abilook.proofs.Laws.{block-good}
 use borrow.Author.Needs.{needs}
 use Rattle.abilook.proofs.cv_find_at_sector.Statement.{statement}
 use Rattle.abilook.proofs.cv_find_at_sector.Tie as tie
@@ -20,12 +21,9 @@ upper-requires c κs = search needs
 enum-told : tie.Need-enum-told
 enum-told c = search needs
 
-get-table-requires : tie.Need-get-table-requires
-get-table-requires c κs =
-    block-length (c .before .before .before .before .args .b .now) (sym (c .before .before .check .ensures) ∙ ap refusal (c .enum-told .given .1))
-
 find-on-requires : tie.Need-find-on-requires
-find-on-requires c κs = search needs
+find-on-requires c κs =
+    block-good (c .before .before .before .before .args .b .now) (sym (c .before .before .check .ensures) ∙ ap refusal (c .enum-told .given .1))
 
 returns : tie.Need-returns
 returns c =
@@ -36,9 +34,9 @@ returns c =
 
 returns-2 : tie.Need-returns-2
 returns-2 c =
-    let a = c .before .before .before .before .before .before .args in
-    let p = c .before .before .before .before .check .ensures in
-    let s = block-done (a .b .now) _ (sym p ∙ ap refusal (c .before .before .enum-told .given .1)) (c .before .get-table .ensures) in
+    let a = c .before .before .before .before .before .args in
+    let p = c .before .before .before .check .ensures in
+    let s = block-done (a .b .now) _ (sym p ∙ ap refusal (c .before .enum-told .given .1)) refl in
     c .find-on .ensures ∙ sym (ap (λ (z : Said MBR). packedOption (andThen z (λ (t : MBR). findSays t (a .sector)))) s)
 
 pub cv-find-at-sector-spec : {M : Type 1} → statement M
@@ -49,7 +47,6 @@ cv-find-at-sector-spec =
     enum-known-k
     upper-requires
     enum-told
-    get-table-requires
     find-on-requires
     returns
     returns-2)

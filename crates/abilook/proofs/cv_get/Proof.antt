@@ -2,9 +2,9 @@ use mathlib.Core.Path.{refl, sym, ap, _∙_}
 use Rattle.base.specs.Said.{Said, refusal, andThen}
 use Rattle.table.specs.declared.MBR.{MBR}
 use Rattle.lookup.specs.Numbers.{getSays}
-use Rattle.abitable.proofs.Laws.{block-refused, block-done, block-length}
+use Rattle.abitable.proofs.Laws.{block-refused, block-done}
 use Rattle.abitable.specs.Blocks.{blockSays}
-use Rattle.abilook.proofs.Laws.{entry-is}
+use Rattle.abilook.proofs.Laws.{entry-is, block-good}
 use borrow.Author.Needs.{needs}
 use Rattle.abilook.proofs.cv_get.Statement.{statement}
 use Rattle.abilook.proofs.cv_get.Tie as tie
@@ -18,12 +18,9 @@ enum-known-k c = search needs
 enum-told : tie.Need-enum-told
 enum-told c = search needs
 
-get-table-requires : tie.Need-get-table-requires
-get-table-requires c κs =
-    block-length (c .before .before .before .before .before .args .b .now) (sym (c .before .before .check .ensures) ∙ ap refusal (c .enum-told .given .1))
-
 get-on-requires : tie.Need-get-on-requires
-get-on-requires c κs = search needs
+get-on-requires c κs =
+    block-good (c .before .before .before .before .before .before .args .b .now) (sym (c .before .before .before .check .ensures) ∙ ap refusal (c .before .enum-told .given .1))
 
 returns : tie.Need-returns
 returns c =
@@ -38,9 +35,9 @@ same-length c = search needs
 
 returns-2 : tie.Need-returns-2
 returns-2 c =
-    let a = c .before .before .before .before .before .before .before .before .before .before .args in
-    let p = c .before .before .before .before .before .before .before .check .ensures in
-    let s = block-done (a .b .now) _ (sym p ∙ ap refusal (c .before .before .before .before .before .enum-told .given .1)) (c .before .before .before .before .get-table .ensures) in
+    let a = c .before .before .before .before .before .before .before .before .before .args in
+    let p = c .before .before .before .before .before .before .check .ensures in
+    let s = block-done (a .b .now) _ (sym p ∙ ap refusal (c .before .before .before .before .enum-told .given .1)) refl in
     let e = ap (λ (z : Said MBR). andThen z (λ (t : MBR). getSays t (a .number))) s in
     let q = c .before .before .get-on .ensures in
     entry-is (andThen (blockSays (a .b .now)) (λ (t : MBR). getSays t (a .number))) _ _ (a .out .now) _ e (q .0) (q .1)
@@ -52,7 +49,6 @@ cv-get-spec =
     check-requires
     enum-known-k
     enum-told
-    get-table-requires
     get-on-requires
     returns
     same-length

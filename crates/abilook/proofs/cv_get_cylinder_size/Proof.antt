@@ -1,9 +1,10 @@
-use mathlib.Core.Path.{sym, ap, _∙_}
+use mathlib.Core.Path.{refl, sym, ap, _∙_}
 use Rattle.base.specs.Said.{Said, refusal, andThen}
 use Rattle.table.specs.declared.MBR.{MBR}
 use Rattle.push.specs.Answers.{cylinderSizeSays}
 use Rattle.abi.specs.Packed.{packed}
-use Rattle.abitable.proofs.Laws.{block-refused, block-done, block-length}
+use Rattle.abitable.proofs.Laws.{block-refused, block-done}
+use Rattle.abilook.proofs.Laws.{block-good}
 use borrow.Author.Needs.{needs}
 use Rattle.abilook.proofs.cv_get_cylinder_size.Statement.{statement}
 use Rattle.abilook.proofs.cv_get_cylinder_size.Tie as tie
@@ -11,8 +12,8 @@ use Rattle.abilook.proofs.cv_get_cylinder_size.Tie as tie
 check-requires : tie.Need-check-requires
 check-requires c κs = search needs
 
-enum-known-k : tie.Need-enum-known-k
-enum-known-k c = search needs
+enum-known-refused : tie.Need-enum-known-refused
+enum-known-refused c = search needs
 
 upper-requires : tie.Need-upper-requires
 upper-requires c κs = search needs
@@ -20,25 +21,22 @@ upper-requires c κs = search needs
 enum-told : tie.Need-enum-told
 enum-told c = search needs
 
-get-table-requires : tie.Need-get-table-requires
-get-table-requires c κs =
-    block-length (c .before .before .before .before .args .b .now) (sym (c .before .before .check .ensures) ∙ ap refusal (c .enum-told .given .1))
-
 size-on-requires : tie.Need-size-on-requires
-size-on-requires c κs = search needs
+size-on-requires c κs =
+    block-good (c .before .before .before .before .args .b .now) (sym (c .before .before .check .ensures) ∙ ap refusal (c .enum-told .given .1))
 
 returns : tie.Need-returns
 returns c =
     let a = c .before .before .before .before .before .before .args in
     let p = c .before .before .before .before .check .ensures in
-    let s = block-refused (a .b .now) _ (sym p ∙ ap refusal (c .before .before .k .given .1)) in
+    let s = block-refused (a .b .now) _ (sym p ∙ ap refusal (c .before .before .refused .given .1)) in
     c .upper .ensures ∙ sym (ap (λ (z : Said MBR). packed (andThen z cylinderSizeSays)) s)
 
 returns-2 : tie.Need-returns-2
 returns-2 c =
-    let a = c .before .before .before .before .before .before .args in
-    let p = c .before .before .before .before .check .ensures in
-    let s = block-done (a .b .now) _ (sym p ∙ ap refusal (c .before .before .enum-told .given .1)) (c .before .get-table .ensures) in
+    let a = c .before .before .before .before .before .args in
+    let p = c .before .before .before .check .ensures in
+    let s = block-done (a .b .now) _ (sym p ∙ ap refusal (c .before .enum-told .given .1)) refl in
     c .size-on .ensures ∙ sym (ap (λ (z : Said MBR). packed (andThen z cylinderSizeSays)) s)
 
 pub cv-get-cylinder-size-spec : {M : Type 1} → statement M
@@ -46,10 +44,9 @@ cv-get-cylinder-size-spec =
     tie.close
     (tie.spec
     check-requires
-    enum-known-k
+    enum-known-refused
     upper-requires
     enum-told
-    get-table-requires
     size-on-requires
     returns
     returns-2)

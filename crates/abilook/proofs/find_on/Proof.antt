@@ -5,8 +5,8 @@ use borrow.Author.Needs.{needs}
 use Rattle.abilook.proofs.find_on.Statement.{statement}
 use Rattle.abilook.proofs.find_on.Tie as tie
 
-find-at-sector-requires : tie.Need-find-at-sector-requires
-find-at-sector-requires c κs = search needs
+find-requires : tie.Need-find-requires
+find-requires c κs = search needs
 
 enum-told : tie.Need-enum-told
 enum-told c = search needs
@@ -25,21 +25,21 @@ upper-requires-2 c κs = search needs
 
 returns : tie.Need-returns
 returns c =
-    c .upper .ensures ∙ sym (ap packedOption (sym (c .before .before .before .find-at-sector .ensures) ∙ ap spotSaid (c .before .enum-told .given .1)))
+    c .upper .ensures ∙ sym (ap packedOption (sym (c .before .before .before .find .ensures) ∙ ap spotSaid (c .before .enum-told .given .1)))
 
 returns-2 : tie.Need-returns-2
 returns-2 c =
-    sym (ap packedOption (sym (c .before .before .before .find-at-sector .ensures) ∙ ap spotSaid (c .before .n .given .1)))
+    sym (ap packedOption (sym (c .before .before .before .find .ensures) ∙ ap spotSaid (c .before .n .given .1)))
 
 returns-3 : tie.Need-returns-3
 returns-3 c =
-    c .upper2 .ensures ∙ sym (ap packedOption (sym (c .before .before .before .before .find-at-sector .ensures) ∙ ap spotSaid (c .before .before .k .given .1)))
+    c .upper2 .ensures ∙ sym (ap packedOption (sym (c .before .before .before .before .find .ensures) ∙ ap spotSaid (c .before .before .k .given .1)))
 
 pub find-on-spec : {M : Type 1} → statement M
 find-on-spec =
     tie.close
     (tie.spec
-    find-at-sector-requires
+    find-requires
     enum-told
     upper-requires
     enum-known-n

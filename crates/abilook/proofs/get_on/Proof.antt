@@ -1,3 +1,4 @@
+use Rattle.block.specs.Block.{tableIn}
 use mathlib.Core.Path.{refl, sym, ap, _∙_}
 use Rattle.lookup.specs.Numbers.{getSays, gotSaid}
 use Rattle.abilook.proofs.Laws.{entry-is}
@@ -22,24 +23,24 @@ enum-known-k c = search needs
 
 returns : tie.Need-returns
 returns c =
-    let a = c .before .before .before .before .args in
+    let a = c .before .before .before .before .before .args in
     let e = sym (c .before .before .get .ensures) ∙ ap gotSaid (c .enum-told .given .1) in
-    entry-is (getSays (a .t) (a .number)) _ _ (a .out .now) _ e refl refl
+    entry-is (getSays (tableIn (a .b .now)) (a .number)) _ _ (a .out .now) _ e refl refl
 
 same-length : tie.Need-same-length
 same-length c = search needs
 
 returns-2 : tie.Need-returns-2
 returns-2 c =
-    let a = c .before .before .before .before .before .before .before .before .before .args in
+    let a = c .before .before .before .before .before .before .before .before .before .before .args in
     let e = sym (c .before .before .before .before .before .before .before .get .ensures) ∙ ap gotSaid (c .before .before .before .before .before .e .given .1) in
-    entry-is (getSays (a .t) (a .number)) _ _ (a .out .now) _ e (c .before .before .put-found .ensures .0) (c .before .before .put-found .ensures .1)
+    entry-is (getSays (tableIn (a .b .now)) (a .number)) _ _ (a .out .now) _ e (c .before .before .put-found .ensures .0) (c .before .before .put-found .ensures .1)
 
 returns-3 : tie.Need-returns-3
 returns-3 c =
-    let a = c .before .before .before .before .before .args in
+    let a = c .before .before .before .before .before .before .args in
     let e = sym (c .before .before .before .get .ensures) ∙ ap gotSaid (c .before .k .given .1) in
-    entry-is (getSays (a .t) (a .number)) _ _ (a .out .now) _ e refl refl
+    entry-is (getSays (tableIn (a .b .now)) (a .number)) _ _ (a .out .now) _ e refl refl
 
 pub get-on-spec : {M : Type 1} → statement M
 get-on-spec =

@@ -1,41 +1,44 @@
-use mathlib.Core.Path.{sym, ap, _∙_}
-use Rattle.abi.specs.Packed.{packed}
-use Rattle.push.specs.Answers.{sizeSaid}
+use Rattle.block.proofs.Inside.{heads-in, sectors-in}
+use Rattle.chs.proofs.Small.{under}
+use native.Mathlib.Omega.{arith}
+use native.Mathlib.Nat.{lt-of-le-of-lt}
+use lib.Dec.{lit<}
+use borrow.Author.Tests.{le-leb}
 use borrow.Author.Needs.{needs}
 use Rattle.abilook.proofs.size_on.Statement.{statement}
 use Rattle.abilook.proofs.size_on.Tie as tie
 
-get-cylinder-size-requires : tie.Need-get-cylinder-size-requires
-get-cylinder-size-requires c κs = search needs
+shared-slice-read-wide : tie.Need-shared-slice-read-wide
+shared-slice-read-wide c = search needs
 
-enum-known-n : tie.Need-enum-known-n
-enum-known-n c = search needs
+wide-requires : tie.Need-wide-requires
+wide-requires c κs = search needs
+
+shared-slice-read-wide-2 : tie.Need-shared-slice-read-wide-2
+shared-slice-read-wide-2 c = search needs
+
+wide-requires-2 : tie.Need-wide-requires-2
+wide-requires-2 c κs = search needs
+
+mul-n : tie.Need-mul-n
+mul-n c = record { fits = lt-of-le-of-lt (under 255 255 (omega arith) (omega arith)) (lit< tt) }
 
 cast-result : tie.Need-cast-result
-cast-result c = search needs
-
-enum-known-k : tie.Need-enum-known-k
-enum-known-k c = search needs
-
-upper-requires : tie.Need-upper-requires
-upper-requires c κs = search needs
+cast-result c = record { fits = lt-of-le-of-lt (under 255 255 (omega arith) (omega arith)) (lit< tt) }
 
 returns : tie.Need-returns
 returns c =
-    sym (ap packed (sym (c .before .before .before .get-cylinder-size .ensures) ∙ ap sizeSaid (c .before .n .given .1)))
-
-returns-2 : tie.Need-returns-2
-returns-2 c =
-    c .upper .ensures ∙ sym (ap packed (sym (c .before .before .before .before .get-cylinder-size .ensures) ∙ ap sizeSaid (c .before .before .k .given .1)))
+    let b = c .before .before .before .before .before .args .b .now in
+    rw (le-leb _ _ (c .before .before .before .before .before .pre .1), heads-in b, sectors-in b, c .before .before .wide .ensures .0, c .wide2 .ensures .0)
 
 pub size-on-spec : {M : Type 1} → statement M
 size-on-spec =
     tie.close
     (tie.spec
-    get-cylinder-size-requires
-    enum-known-n
+    shared-slice-read-wide
+    wide-requires
+    shared-slice-read-wide-2
+    wide-requires-2
+    mul-n
     cast-result
-    enum-known-k
-    upper-requires
-    returns
-    returns-2)
+    returns)

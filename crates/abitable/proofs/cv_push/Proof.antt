@@ -1,9 +1,11 @@
 use mathlib.Core.Path.{sym, ap, _∙_}
-use lib.ListN.{length}
 use Rattle.base.specs.Said.{refusal}
 use Rattle.table.specs.declared.MBR.{MBR}
-use Rattle.abitable.specs.Blocks.{blockSays, pushOn, pushedOn}
-use Rattle.abitable.proofs.Laws.{block-refused, block-done, block-length, on-refused, on-done}
+use Rattle.push.specs.Push.{pushSays, pushTable}
+use Rattle.abi.specs.Packed.{packed}
+use Rattle.abitable.specs.Blocks.{pushedOn}
+use Rattle.abitable.proofs.Laws.{on-refused, on-done, after-refused, after-done}
+use Rattle.abitable.proofs.Changed.{pushed-table}
 use borrow.Author.Needs.{needs}
 use Rattle.abitable.proofs.cv_push.Statement.{statement}
 use Rattle.abitable.proofs.cv_push.Tie as tie
@@ -20,31 +22,31 @@ upper-requires c κs = search needs
 enum-told : tie.Need-enum-told
 enum-told c = search needs
 
-get-table-requires : tie.Need-get-table-requires
-get-table-requires c κs =
-    block-length (c .before .before .before .before .before .args .b .now) (sym (c .before .before .check .ensures) ∙ ap refusal (c .enum-told .given .1))
-
 push-on-requires : tie.Need-push-on-requires
-push-on-requires c κs = search needs
-
-returns : tie.Need-returns
-returns c =
-    let a = c .before .before .before .before .before .before .before .args in
-    let p = c .before .before .before .before .check .ensures in
-    let s = block-refused (a .b .now) _ (sym p ∙ ap refusal (c .before .before .k .given .1)) in
-    let w = on-refused (blockSays (a .b .now)) (λ (t : MBR). pushOn t (a .sys) (a .start) (a .sectors) (length (a .out .now))) (λ (t : MBR). pushedOn t (a .sys) (a .start) (a .sectors)) _ (a .out .now) s in
-    (c .upper .ensures ∙ w .0, w .1)
+push-on-requires c κs = sym (c .before .before .before .check .ensures) ∙ ap refusal (c .before .enum-told .given .1)
 
 same-length : tie.Need-same-length
 same-length c = search needs
 
+returns : tie.Need-returns
+returns c =
+    let a = c .before .before .before .before .before .before .before .args in
+    let b = a .b .now in
+    let h = sym (c .before .before .before .before .check .ensures) ∙ ap refusal (c .before .before .k .given .1) in
+    let w = on-refused b (λ (t : MBR). pushSays t (a .sys) (a .start) (a .sectors)) (pushedOn b (a .sys) (a .start) (a .sectors)) _ h in
+    (c .upper .ensures ∙ sym (ap packed (w .0)), (w .1, after-refused b (λ (t : MBR). pushTable t (a .sys) (a .start) (a .sectors)) _ h))
+
+same-length-2 : tie.Need-same-length-2
+same-length-2 c = search needs
+
 returns-2 : tie.Need-returns-2
 returns-2 c =
-    let a = c .before .before .before .before .before .before .before .before .before .before .args in
-    let p = c .before .before .before .before .before .before .before .check .ensures in
-    let s = block-done (a .b .now) _ (sym p ∙ ap refusal (c .before .before .before .before .before .enum-told .given .1)) (c .before .before .before .before .get-table .ensures) in
-    let q = c .before .before .push-on .ensures in
-    on-done (blockSays (a .b .now)) _ (λ (t : MBR). pushOn t (a .sys) (a .start) (a .sectors) (length (a .out .now))) (λ (t : MBR). pushedOn t (a .sys) (a .start) (a .sectors)) _ (a .out .now) _ s (q .0) (q .1)
+    let a = c .before .before .before .before .before .before .before .before .before .args in
+    let b = a .b .now in
+    let h = sym (c .before .before .before .before .before .before .check .ensures) ∙ ap refusal (c .before .before .before .before .enum-told .given .1) in
+    let p = c .before .before .push-on .ensures in
+    let w = on-done b _ (λ (t : MBR). pushSays t (a .sys) (a .start) (a .sectors)) (pushedOn b (a .sys) (a .start) (a .sectors)) h (p .1) in
+    (p .0 ∙ sym (ap packed (w .0)), (w .1, after-done b _ _ (λ (t : MBR). pushTable t (a .sys) (a .start) (a .sectors)) h (p .1) (pushed-table b (a .sys) (a .start) (a .sectors) h)))
 
 pub cv-push-spec : {M : Type 1} → statement M
 cv-push-spec =
@@ -54,8 +56,8 @@ cv-push-spec =
     enum-known-k
     upper-requires
     enum-told
-    get-table-requires
     push-on-requires
-    returns
     same-length
+    returns
+    same-length-2
     returns-2)

@@ -24,7 +24,7 @@ returns c =
     let a = c .before .before .before .before .before .before .before .before .args in
     let p = c .before .before .before .before .before .put .ensures in
     let h = sym (p .0) ∙ ap refusal (c .before .k .given .1) in
-    (sym (ap number (put-refused (a .t) (length (a .out .now)) 0 _ h)), p .1)
+    (sym (ap number (put-refused (a .t) (length (a .out .now)) _ h)), p .1)
 
 same-length-2 : tie.Need-same-length-2
 same-length-2 c = search needs
@@ -34,7 +34,7 @@ returns-2 c =
     let a = c .before .before .before .before .before .before .before .args in
     let p = c .before .before .before .before .put .ensures in
     let h = sym (p .0) ∙ ap refusal (c .enum-told .given .1) in
-    (sym (ap number (put-done (a .t) (length (a .out .now)) 0 h)), p .1)
+    (sym (ap number (put-done (a .t) (length (a .out .now)) h)), p .1)
 
 pub put-alone-spec : {M : Type 1} → statement M
 put-alone-spec =

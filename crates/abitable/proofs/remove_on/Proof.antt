@@ -1,49 +1,55 @@
-use mathlib.Core.Path.{sym, ap, _∙_}
-use Rattle.base.specs.Said.{refusal}
-use Rattle.abitable.specs.Blocks.{removedOn}
-use Rattle.abitable.proofs.Laws.{removal-refused, removal-done, table-refused, table-done}
+use mathlib.Core.Path.{ap, _∙_}
+use Prim.Native.Nat.{ℕ, _-_}
+use native.Mathlib.Omega.{arith}
+use Rattle.inblock.specs.Changed.{withoutSlot}
+use Rattle.inblock.proofs.Alike.{passed}
+use Rattle.abitable.proofs.Laws.{block-length}
+use Rattle.abitable.proofs.Changed.{too-small, too-large, removal-done}
 use borrow.Author.Needs.{needs}
 use Rattle.abitable.proofs.remove_on.Statement.{statement}
 use Rattle.abitable.proofs.remove_on.Tie as tie
 
-remove-requires : tie.Need-remove-requires
-remove-requires c κs = search needs
-
-enum-known-answer : tie.Need-enum-known-answer
-enum-known-answer c = search needs
-
-enum-told : tie.Need-enum-told
-enum-told c = search needs
-
-put-alone-requires : tie.Need-put-alone-requires
-put-alone-requires c κs = search needs
-
 returns : tie.Need-returns
-returns c =
-    let a = c .before .before .before .before .before .args in
-    let p = c .before .before .before .remove .ensures in
-    let s = removal-refused (a .t) (a .i) _ (sym (p .0) ∙ ap refusal (c .before .answer .given .1)) in
-    table-refused (removedOn (a .t) (a .i)) _ (a .out .now) s
+returns c = too-small (c .before .before .args .b .now) (c .before .before .args .i) (c .before .before .pre) (c .if1 .taken)
+
+count-requires : tie.Need-count-requires
+count-requires c κs = block-length (c .before .before .before .args .b .now) (c .before .before .before .pre)
+
+sub-k : tie.Need-sub-k
+sub-k c = search needs
 
 same-length : tie.Need-same-length
 same-length c = search needs
 
 returns-2 : tie.Need-returns-2
 returns-2 c =
-    let a = c .before .before .before .before .before .before .before .before .before .args in
-    let p = c .before .before .before .before .before .before .before .remove .ensures in
-    let s = removal-done (a .t) (a .i) (sym (p .0) ∙ ap refusal (c .before .before .before .before .before .enum-told .given .1)) in
-    let q = c .before .before .put-alone .ensures in
-    table-done (removedOn (a .t) (a .i)) _ _ _ (a .out .now) _ s (p .1 .1) (q .0) (q .1)
+    let s = c .before .before .before .before .before in
+    too-large (s .args .b .now) (s .args .i) (s .pre) (c .before .before .before .if1 .left) (omega (arith, c .if2 .taken, c .before .count .ensures))
+
+drop-slot-requires : tie.Need-drop-slot-requires
+drop-slot-requires c κs =
+    let s = c .before .before .before .before .before .before in
+    (block-length (s .args .b .now) (s .pre), c .before .if2 .left, omega (arith, c .before .before .count .ensures, passed (s .args .b .now) (s .pre) .few))
+
+same-length-2 : tie.Need-same-length-2
+same-length-2 c = search needs
+
+returns-3 : tie.Need-returns-3
+returns-3 c =
+    let s = c .before .before .before .before .before .before .before .before .before in
+    let b = s .args .b .now in
+    let e = c .before .before .before .before .before .count .ensures in
+    removal-done b (s .args .i) (s .pre) _ (c .before .before .before .before .before .before .before .if1 .left) (omega (arith, c .before .before .before .before .if2 .left, e)) (c .before .before .drop-slot .ensures ∙ ap (λ (m : ℕ). withoutSlot b m (s .args .i - 5)) e)
 
 pub remove-on-spec : {M : Type 1} → statement M
 remove-on-spec =
     tie.close
     (tie.spec
-    remove-requires
-    enum-known-answer
-    enum-told
-    put-alone-requires
     returns
+    count-requires
+    sub-k
     same-length
-    returns-2)
+    returns-2
+    drop-slot-requires
+    same-length-2
+    returns-3)

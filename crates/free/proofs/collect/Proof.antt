@@ -1,12 +1,12 @@
 use Rattle.base.specs.declared.Answer.the-variants.{Done}
-use Rattle.free.proofs.Laws.{pair-on, pair-seven, pair-end, told-same, told-empty, listed-again, runs-listed, is-refused, not-refused}
+use Rattle.free.proofs.Laws.{pair-on, pair-seven, pair-end, told-same, told-empty, listed-again, listed-more, runs-listed}
 use Rattle.free.specs.declared.Run.{Run}
-use Rattle.base.specs.Said.{gives, refuses}
-use mathlib.Core.List.{List}
-use Rattle.free.specs.Free.{listed, runsIn, joined, found}
-use lib.ListN.{drop}
-use lib.ListN.{length}
-use Prim.Native.Nat.{ℕ, _+_, _-_, _≤_, _<_, _%_}
+use Rattle.free.specs.declared.Gap.{Gap}
+use Rattle.base.specs.Said.{gives, refuses, failure, valueOr}
+use Rattle.free.specs.Free.{listed, runsIn, joined, found, gapSaid}
+use lib.ListN.{length, drop}
+use Prim.Native.Nat.{ℕ, _+_, _-_, _≤_, _<_}
+use mathlib.Core.List.{List, [], _++_, append-nil}
 use mathlib.Core.Path.{_≡_, refl, sym, ap, _∙_}
 use native.Mathlib.Omega.{arith}
 use borrow.Author.Needs.{needs}
@@ -44,8 +44,11 @@ shared-slice-read-gap-of-2 c = search needs
 gap-of-requires : tie.Need-gap-of-requires Inv-loop μ-loop
 gap-of-requires c κs = search needs
 
+add-i : tie.Need-add-i Inv-loop μ-loop
+add-i c = search needs
+
 enum-told : tie.Need-enum-told Inv-loop μ-loop
-enum-told c = c .match .keys1
+enum-told c = search needs
 
 refused-requires : tie.Need-refused-requires Inv-loop μ-loop
 refused-requires c κs = search needs
@@ -55,14 +58,11 @@ returns c =
     let l = c .before .before .before .before .before .before .before .loop in
     let s = c .before .before .before .before .before .before .before .before .before in
     let g = c .before .before .before .gap-of in
-    let e = l .inv .1 .1 .1 ∙ pair-seven (s .args .align) (s .args .ps .now) (l .i) (search needs) (g .result) (g .ensures) (runsIn (l .runs)) (is-refused (g .result) (c .before .before .match .keys1)) in
+    let e = l .inv .1 .1 .1 ∙ pair-seven (s .args .align) (s .args .ps .now) (l .i) (search needs) (g .result) (g .ensures) (runsIn (l .runs)) (ap gapSaid (c .before .enum-told .given .1)) in
     (told-same (c .refused .result) (refuses 7) _ (sym e) (c .refused .ensures), omega (arith, told-empty (c .refused .result) 7 (c .refused .ensures)))
 
-with-requires : tie.Need-with-requires Inv-loop μ-loop
-with-requires c κs = (c .before .before .before .before .before .loop .inv .1 .0, search needs)
-
-add-i : tie.Need-add-i Inv-loop μ-loop
-add-i c = search needs
+enum-told-2 : tie.Need-enum-told-2 Inv-loop μ-loop
+enum-told-2 c = search needs
 
 loop-less : tie.Need-loop-less Inv-loop μ-loop
 loop-less c = search needs
@@ -72,9 +72,36 @@ loop-again c =
     let l = c .before .before .before .before .before .before .loop in
     let s = c .before .before .before .before .before .before .before .before in
     let g = c .before .before .gap-of in
-    let w = c .with .ensures .0 in
-    let e = pair-on (s .args .align) (s .args .ps .now) (l .i) (search needs) (g .result) (g .ensures) (runsIn (l .runs)) (not-refused (g .result) (c .before .match .keys2)) in
-    (search needs, (listed-again _ _ w, (search needs, l .inv .1 .1 .1 ∙ e ∙ ap (λ (rs : List Run). joined rs (found (s .args .align) (drop (l .i + 2) (s .args .ps .now)))) (sym (ap runsIn w ∙ runs-listed _)))))
+    let o = c .enum-told2 .given .1 in
+    let v = ap (λ (x : Gap). runsIn (l .runs) ++ valueOr [] (gapSaid x)) o in
+    let e = pair-on (s .args .align) (s .args .ps .now) (l .i) (search needs) (g .result) (g .ensures) (runsIn (l .runs)) (ap (λ (x : Gap). failure (gapSaid x)) o) in
+    (search needs, (l .inv .1 .0, (search needs, l .inv .1 .1 .1 ∙ e ∙ ap (λ (rs : List Run). joined rs (found (s .args .align) (drop (l .i + 2) (s .args .ps .now)))) (v ∙ append-nil (runsIn (l .runs))))))
+
+enum-known-g : tie.Need-enum-known-g Inv-loop μ-loop
+enum-known-g c = search needs
+
+mul-r : tie.Need-mul-r Inv-loop μ-loop
+mul-r c = search needs
+
+element-set-from-r : tie.Need-element-set-from-r Inv-loop μ-loop
+element-set-from-r c = search needs
+
+add-runs : tie.Need-add-runs Inv-loop μ-loop
+add-runs c = search needs
+
+loop-less-2 : tie.Need-loop-less-2 Inv-loop μ-loop
+loop-less-2 c = search needs
+
+loop-again-2 : tie.Need-loop-again-2 Inv-loop μ-loop
+loop-again-2 c =
+    let l = c .before .before .before .before .before .before .before .loop in
+    let s = c .before .before .before .before .before .before .before .before .before in
+    let g = c .before .before .before .gap-of in
+    let o = c .before .g .given .1 in
+    let v = ap (λ (x : Gap). runsIn (l .runs) ++ valueOr [] (gapSaid x)) o in
+    let e = pair-on (s .args .align) (s .args .ps .now) (l .i) (search needs) (g .result) (g .ensures) (runsIn (l .runs)) (ap (λ (x : Gap). failure (gapSaid x)) o) in
+    let w = listed-more (l .runs) (c .before .g .given .0 .0) (l .inv .1 .0) (search needs) in
+    (search needs, (listed-again _ _ w, (search needs, l .inv .1 .1 .1 ∙ e ∙ ap (λ (rs : List Run). joined rs (found (s .args .align) (drop (l .i + 2) (s .args .ps .now)))) (v ∙ sym (ap runsIn w ∙ runs-listed _)))))
 
 returns-2 : tie.Need-returns-2 Inv-loop μ-loop
 returns-2 c =
@@ -97,11 +124,17 @@ collect-spec =
     mul-gap-of-2
     shared-slice-read-gap-of-2
     gap-of-requires
+    add-i
     enum-told
     refused-requires
     returns
-    with-requires
-    add-i
+    enum-told-2
     loop-less
     loop-again
+    enum-known-g
+    mul-r
+    element-set-from-r
+    add-runs
+    loop-less-2
+    loop-again-2
     returns-2)

@@ -1,63 +1,43 @@
-use Rattle.free.proofs.Laws.{more-none, more-out, more-in, whole-zero, whole-far, whole-in}
-use Rattle.free.specs.Free.{run}
-use borrow.Author.Tests.{eq-eqb, ne-eqb}
+use Rattle.free.proofs.Laws.{none-more, out-more, two-more}
+use Rattle.free.specs.Free.{zone, endsSaid}
 use lib.ListN.{length}
-use Prim.Native.Nat.{ℕ, _+_, _-_, _≤_, _<_, _%_}
-use mathlib.Core.Path.{_≡_, refl, sym, ap, _∙_}
+use mathlib.Core.Path.{_≡_, sym, ap, _∙_}
 use native.Mathlib.Omega.{arith}
 use borrow.Author.Needs.{needs}
 use Rattle.free.proofs.Points.with.Statement.{statement}
 use Rattle.free.proofs.Points.with.Tie as tie
 
+ends-of-requires : tie.Need-ends-of-requires
+ends-of-requires c κs = search needs
+
+enum-told : tie.Need-enum-told
+enum-told c = search needs
+
 returns : tie.Need-returns
 returns c =
-    let s = c .before .before in
+    let s = c .before .before .before in
     let a = s .args .self in
-    (rw (eq-eqb (s .args .e .sys) 0 (c .if1 .taken)) (more-none (a .fits) _), search needs)
+    let e = sym (ap endsSaid (c .enum-told .given .1)) ∙ c .before .before .ends-of .ensures in
+    (none-more (a .fits) (a .at) (a .count) (zone (s .args .place) (s .args .e)) e, search needs)
 
-wide-requires : tie.Need-wide-requires
-wide-requires c κs = search needs
-
-wide-requires-2 : tie.Need-wide-requires-2
-wide-requires-2 c κs = search needs
-
-add-start : tie.Need-add-start
-add-start c = search needs
-
-wide-requires-3 : tie.Need-wide-requires-3
-wide-requires-3 c κs = search needs
-
-add-sum : tie.Need-add-sum
-add-sum c = search needs
+enum-told-2 : tie.Need-enum-told-2
+enum-told-2 c = search needs
 
 returns-2 : tie.Need-returns-2
 returns-2 c =
-    let s = c .before .before .before .before .before .before in
+    let s = c .before .before .before in
     let a = s .args .self in
-    let z = run (s .args .place + s .args .e .«starting_lba») (s .args .e .sectors) in
-    (rw (ne-eqb (s .args .e .sys) 0 (c .before .before .before .before .if1 .left)) (more-out (a .fits) _ z (whole-zero z (search needs))), search needs)
+    let e = sym (ap endsSaid (c .enum-told2 .given .1)) ∙ c .before .before .ends-of .ensures in
+    (out-more (a .fits) (a .at) (a .count) (zone (s .args .place) (s .args .e)) e, search needs)
 
-returns-3 : tie.Need-returns-3
-returns-3 c =
-    let s = c .before .before .before .before .before .before .before in
-    let a = s .args .self in
-    let z = run (s .args .place + s .args .e .«starting_lba») (s .args .e .sectors) in
-    (rw (ne-eqb (s .args .e .sys) 0 (c .before .before .before .before .before .if1 .left)) (more-out (a .fits) _ z (whole-far z (search needs))), search needs)
-
-cast-next : tie.Need-cast-next
-cast-next c = search needs
+enum-known-first : tie.Need-enum-known-first
+enum-known-first c = search needs
 
 mul-next : tie.Need-mul-next
 mul-next c = search needs
 
 element-write-next : tie.Need-element-write-next
 element-write-next c = search needs
-
-sub-next : tie.Need-sub-next
-sub-next c = search needs
-
-cast-next-2 : tie.Need-cast-next-2
-cast-next-2 c = search needs
 
 add-next : tie.Need-add-next
 add-next c = search needs
@@ -71,33 +51,28 @@ element-write-next-2 c = search needs
 add-next-2 : tie.Need-add-next-2
 add-next-2 c = search needs
 
-returns-4 : tie.Need-returns-4
-returns-4 c =
-    let s = c .before .before .before .before .before .before .before in
+returns-3 : tie.Need-returns-3
+returns-3 c =
+    let s = c .before .before .before .before in
     let a = s .args .self in
     let n : length (a .at) ≡ 50 = search needs in
-    let z = run (s .args .place + s .args .e .«starting_lba») (s .args .e .sectors) in
-    (rw (ne-eqb (s .args .e .sys) 0 (c .before .before .before .before .before .if1 .left), c .before .before .before .before .wide .ensures .0, c .before .before .before .wide2 .ensures .0, c .before .before .wide3 .ensures .0) (more-in (a .fits) (a .at) (a .count) z (omega (arith, s .pre)) (whole-in z (search needs) (search needs))), search needs)
+    let e = sym (ap endsSaid (c .before .first .given .1)) ∙ c .before .before .before .ends-of .ensures in
+    (two-more (a .fits) (a .at) (a .count) (zone (s .args .place) (s .args .e)) _ _ (omega (arith, n, s .pre)) e, search needs)
 
 pub with-spec : {M : Type 1} → statement M
 with-spec =
     tie.close
     (tie.spec
+    ends-of-requires
+    enum-told
     returns
-    wide-requires
-    wide-requires-2
-    add-start
-    wide-requires-3
-    add-sum
+    enum-told-2
     returns-2
-    returns-3
-    cast-next
+    enum-known-first
     mul-next
     element-write-next
-    sub-next
-    cast-next-2
     add-next
     mul-next-2
     element-write-next-2
     add-next-2
-    returns-4)
+    returns-3)

@@ -1,0 +1,110 @@
+-- The tables in two blocks that are alike in parts, and blocks that pass their checks. Assumes nothing.
+use mathlib.Core.Path.{_≡_, refl, sym, ap, subst, _∙_}
+use mathlib.Core.List.{List}
+use mathlib.Core.Bool.{true}
+use mathlib.Core.Option.{none}
+use Prim.Native.Nat.{ℕ, zero, suc, _+_, _-_, _*_, _≤_, _<_}
+use native.Mathlib.Omega.{arith}
+use lib.ListN.{length, getD}
+use lib.Seq.{ext-getD}
+use borrow.Author.Tests.{eqb-true, leb-true, eq-eqb, le-leb}
+use Rattle.base.specs.Bytes.{bytesAt, number, little}
+use Rattle.base.specs.Said.{gives, refuses}
+use Rattle.base.specs.Checks.{first-fail, answer}
+use Rattle.base.proofs.Checks.{none-fails, checked-none}
+use Rattle.mbr.specs.declared.MBRHeader.{MBRHeader}
+use Rattle.table.specs.declared.LogicalPartition.{LogicalPartition}
+use Rattle.table.specs.declared.MBR.{MBR}
+use Rattle.table.specs.Table.{most, noLogical}
+use Rattle.block.specs.Block.{headerIn, slotOf, slotTagged, slotAt, tagged, tableIn, blockChecks}
+use Rattle.block.specs.Clean.{SlotClean, Clean}
+use Rattle.block.proofs.Forth.{tagged-at}
+use Rattle.block.proofs.Inside.{size-in, disk-in, align-in, count-in, cylinders-in, heads-in, sectors-in, header-in, slots-in, slots-long, slot-in}
+use Rattle.inblock.proofs.Over.{Alike, bytes-alike, part-alike}
+
+-- the slots are those of a list
+pub slots-are : (b : List ℕ) (ls : List LogicalPartition) → length ls ≡ 24 → ((i : ℕ) → i < 24 → slotOf (slotAt b i) ≡ getD ls i noLogical)
+    → tableIn b .«logical_partitions» ≡ ls
+slots-are b ls l f =
+    let n : length (tableIn b .«logical_partitions») ≡ 24 = ap length (slots-in b) ∙ slots-long b most in
+    ext-getD noLogical (tableIn b .«logical_partitions») ls (n ∙ sym l)
+    (λ i h.
+    let k : i < 24 = omega (arith, n) in
+    slot-in b i k ∙ f i k)
+
+module _ (a b : List ℕ) (k : length a ≡ 12108) (l : length b ≡ 12108) where
+  pub slot-alike : (i : ℕ) → i < 24 → Alike a b (540 + 482 * i) 482 → slotAt a i ≡ slotAt b i
+  slot-alike i h f = part-alike a b (540 + 482 * i) 482 (omega arith) (omega arith) f
+
+  pub slots-alike : Alike a b 540 11568 → tableIn a .«logical_partitions» ≡ tableIn b .«logical_partitions»
+  slots-alike f =
+      slots-are a (tableIn b .«logical_partitions») (ap length (slots-in b) ∙ slots-long b most)
+      (λ i h. ap slotOf (slot-alike i h (λ j x y. f j (omega arith) (omega arith))) ∙ sym (slot-in b i h))
+
+  pub clean-alike : Alike a b 540 11568 → Clean b → Clean a
+  clean-alike f z i h = subst SlotClean (sym (slot-alike i h (λ j x y. f j (omega arith) (omega arith)))) (z i h)
+
+  pub header-alike : Alike a b 20 520 → tableIn a .header ≡ tableIn b .header
+  header-alike f = header-in a ∙ ap headerIn (part-alike a b 20 520 (omega arith) (omega arith) f) ∙ sym (header-in b)
+
+  -- alignment and geometry are alike, and all else is known
+  pub table-by : (s d n : ℕ) (h : MBRHeader) (ls : List LogicalPartition) → Alike a b 8 4 → Alike a b 16 4 → tableIn a .«sector_size» ≡ s → tableIn a .«disk_size» ≡ d
+      → tableIn a .count ≡ n → tableIn a .header ≡ h → tableIn a .«logical_partitions» ≡ ls
+      → tableIn a ≡ record { «sector_size» = s; header = h; «logical_partitions» = ls; count = n; align = tableIn b .align; cylinders = tableIn b .cylinders; heads = tableIn b .heads; sectors = tableIn b .sectors; «disk_size» = d }
+  table-by s d n h ls f g es ed en eh el =
+      let al : tableIn a .align ≡ tableIn b .align = align-in a ∙ ap (number little) (bytes-alike a b 8 4 f) ∙ sym (align-in b) in
+      let cy : tableIn a .cylinders ≡ tableIn b .cylinders =
+      cylinders-in a ∙ ap (number little) (bytes-alike a b 16 2 (λ j x y. g j x (omega arith))) ∙ sym (cylinders-in b) in
+      let hd : tableIn a .heads ≡ tableIn b .heads = heads-in a ∙ g 18 (omega arith) (omega arith) ∙ sym (heads-in b) in
+      let sc : tableIn a .sectors ≡ tableIn b .sectors = sectors-in a ∙ g 19 (omega arith) (omega arith) ∙ sym (sectors-in b) in
+      λ i. record {
+        «sector_size» = es i;
+        header = eh i;
+        «logical_partitions» = el i;
+        count = en i;
+        align = al i;
+        cylinders = cy i;
+        heads = hd i;
+        sectors = sc i;
+        «disk_size» = ed i;
+      }
+
+  pub size-alike : Alike a b 0 4 → tableIn a .«sector_size» ≡ tableIn b .«sector_size»
+  size-alike f = size-in a ∙ ap (number little) (bytes-alike a b 0 4 f) ∙ sym (size-in b)
+
+  pub disk-alike : Alike a b 4 4 → tableIn a .«disk_size» ≡ tableIn b .«disk_size»
+  disk-alike f = disk-in a ∙ ap (number little) (bytes-alike a b 4 4 f) ∙ sym (disk-in b)
+
+  pub count-alike : Alike a b 12 4 → tableIn a .count ≡ tableIn b .count
+  count-alike f = count-in a ∙ ap (number little) (bytes-alike a b 12 4 f) ∙ sym (count-in b)
+
+-- each slot is tagged
+pub tags-each : (b : List ℕ) (i n j : ℕ) → tagged b i n ≡ true → i ≤ j → j < i + n → slotTagged (slotAt b j) ≡ true
+tags-each b i n j t x y =
+    let z : i + (j - i) ≡ j = omega arith in
+    ap (λ (m : ℕ). slotTagged (slotAt b m)) (sym z) ∙ tagged-at b i n (j - i) t (omega arith)
+
+pub tags-all : (b : List ℕ) (i n : ℕ) → ((j : ℕ) → i ≤ j → j < i + n → slotTagged (slotAt b j) ≡ true) → tagged b i n ≡ true
+unfolding tagged
+tags-all b i zero f = refl
+tags-all b i (suc n) f = rw (f i (omega arith) (omega arith)) (tags-all b (suc i) n (λ j x y. f j (omega arith) (omega arith)))
+
+-- a block that passes its checks
+pub record Good (b : List ℕ) : Type 0 where
+  pub long : length b ≡ 12108
+  pub few : tableIn b .count ≤ 24
+  pub tags : tagged b 0 24 ≡ true
+
+pub passed : (b : List ℕ) → first-fail (blockChecks b) ≡ none → Good b
+passed b h =
+    let p = none-fails (blockChecks b) h in
+    record { long = eqb-true _ _ (p .0); few = rw (count-in b) (leb-true _ _ (p .1 .0)); tags = p .1 .1 .0 }
+
+pub passes : (b : List ℕ) → Good b → first-fail (blockChecks b) ≡ none
+passes b g =
+    let c : number little (bytesAt b 12 4) ≤ 24 = rw (count-in b) at (g .few) in
+    rw (eq-eqb _ _ (g .long), le-leb _ _ c, g .tags)
+
+-- what it says
+pub good-says : (b : List ℕ) (t : MBR) → Good b → tableIn b ≡ t → answer (blockChecks b) (tableIn b) ≡ gives t
+good-says b t g e = checked-none (blockChecks b) refuses (gives (tableIn b)) (passes b g) ∙ ap gives e

@@ -1,0 +1,90 @@
+-- What stands where in a list with other elements laid over a part of it. Assumes nothing.
+use mathlib.Core.Path.{_≡_, refl, sym, ap, _∙_}
+use mathlib.Core.List.{List, _++_}
+use Prim.Native.Nat.{ℕ, zero, suc, _+_, _-_, _≤_, _<_}
+use native.Mathlib.Omega.{arith}
+use lib.ListN.{length, take, drop, getD, length-append, List·getD-append}
+use lib.Seq.{length-take-le, getD-take, getD-drop, getD-append-add, ext-getD}
+use Rattle.base.specs.Bytes.{plus, from, bytesAt}
+use Rattle.base.specs.Put.{put}
+use Rattle.base.proofs.Bytes.{plus-eq}
+use Rattle.block.specs.Block.{part}
+use Rattle.block.proofs.Forth.{part-long}
+
+module _ {A : Type 0} (z : A) (s xs : List A) (at : ℕ) (h : at + length xs ≤ length s) where
+  first : length (take at s) ≡ at
+  first = length-take-le at s (omega arith)
+
+  both : length (take at s ++ xs) ≡ at + length xs
+  both = length-append (take at s) xs ∙ omega (arith, first)
+
+  pub over-before : (i : ℕ) → i < at → getD (take at s ++ xs ++ drop (at + length xs) s) i z ≡ getD s i z
+  over-before i k =
+      let p : i < length (take at s) = omega (arith, first) in
+      let q : i < length (take at s ++ xs) = omega (arith, both) in
+      List·getD-append (take at s ++ xs) (drop (at + length xs) s) z i q ∙ List·getD-append (take at s) xs z i p ∙ getD-take at s i z k
+
+  pub over-within : (j : ℕ) → j < length xs → getD (take at s ++ xs ++ drop (at + length xs) s) (at + j) z ≡ getD xs j z
+  over-within j k =
+      let q : at + j < length (take at s ++ xs) = omega (arith, both) in
+      List·getD-append (take at s ++ xs) (drop (at + length xs) s) z (at + j) q
+      ∙ ap (λ (m : ℕ). getD (take at s ++ xs) (m + j) z) (sym first)
+      ∙ getD-append-add (take at s) xs j z
+
+  pub over-behind : (i : ℕ) → at + length xs ≤ i → getD (take at s ++ xs ++ drop (at + length xs) s) i z ≡ getD s i z
+  over-behind i k =
+      let j : ℕ = i - (at + length xs) in
+      let e : i ≡ length (take at s ++ xs) + j = omega (arith, both) in
+      let f : at + length xs + j ≡ i = omega arith in
+      ap (λ (m : ℕ). getD (take at s ++ xs ++ drop (at + length xs) s) m z) e
+      ∙ getD-append-add (take at s ++ xs) (drop (at + length xs) s) j z
+      ∙ getD-drop (at + length xs) s j z
+      ∙ ap (λ (m : ℕ). getD s m z) f
+
+-- the n bytes from o on are alike
+abbrev pub Alike : List ℕ → List ℕ → ℕ → ℕ → Type 0
+Alike a b o n = (j : ℕ) → o ≤ j → j < o + n → getD a j 0 ≡ getD b j 0
+
+module _ (s : List ℕ) (at : ℕ) (xs : List ℕ) (h : at + length xs ≤ length s) where
+  pub put-before : (o n : ℕ) → o + n ≤ at → Alike (put s at xs) s o n
+  unfolding put
+  put-before o n k j x y = over-before 0 s xs at h j (omega arith)
+
+  pub put-behind : (o n : ℕ) → at + length xs ≤ o → Alike (put s at xs) s o n
+  unfolding put
+  put-behind o n k j x y = over-behind 0 s xs at h j (omega arith)
+
+  pub put-within : (j : ℕ) → j < length xs → getD (put s at xs) (at + j) 0 ≡ getD xs j 0
+  unfolding put
+  put-within j k = over-within 0 s xs at h j k
+
+-- bytes that are alike make the same list
+from-alike : (a b : List ℕ) (at k n : ℕ) → Alike a b (at + k) n → from a at k n ≡ from b at k n
+from-alike a b at k zero f = refl
+from-alike a b at k (suc n) f =
+    let p : getD a (plus at k) 0 ≡ getD b (plus at k) 0 = rw (plus-eq at k) (f (at + k) (omega arith) (omega arith)) in
+    let r : from a at (suc k) n ≡ from b at (suc k) n = from-alike a b at (suc k) n (λ j x y. f j (omega arith) (omega arith)) in
+    cc
+
+pub bytes-alike : (a b : List ℕ) (at n : ℕ) → Alike a b at n → bytesAt a at n ≡ bytesAt b at n
+bytes-alike a b at n f = from-alike a b at 0 n (λ j x y. f j (omega arith) (omega arith))
+
+pub part-zero : (b : List ℕ) (n : ℕ) → take n b ≡ part b 0 n
+unfolding part
+part-zero b n = refl
+
+pub part-byte : (b : List ℕ) (at n i : ℕ) → i < n → getD (part b at n) i 0 ≡ getD b (at + i) 0
+unfolding part
+part-byte b at n i h = getD-take n (drop at b) i 0 h ∙ getD-drop at b i 0
+
+pub part-moved : (a b : List ℕ) (o p n : ℕ) → o + n ≤ length a → p + n ≤ length b → ((j : ℕ) → j < n → getD a (o + j) 0 ≡ getD b (p + j) 0)
+    → part a o n ≡ part b p n
+part-moved a b o p n x y f =
+    let l = part-long a o n x in
+    ext-getD 0 (part a o n) (part b p n) (l ∙ sym (part-long b p n y))
+    (λ i h.
+    let k : i < n = omega (arith, l) in
+    part-byte a o n i k ∙ f i k ∙ sym (part-byte b p n i k))
+
+pub part-alike : (a b : List ℕ) (o n : ℕ) → o + n ≤ length a → o + n ≤ length b → Alike a b o n → part a o n ≡ part b o n
+part-alike a b o n x y f = part-moved a b o o n x y (λ j h. f (o + j) (omega arith) (omega arith))

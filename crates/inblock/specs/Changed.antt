@@ -1,0 +1,28 @@
+-- A block changed where it lies. Assumes nothing.
+use Prim.Native.Nat.{ℕ, _+_, _-_, _*_}
+use mathlib.Core.List.{List, _++_}
+use Rattle.base.specs.Bytes.{bytesOf, little}
+use Rattle.base.specs.Put.{put}
+use Rattle.entry.specs.Entry.{noEntry}
+use Rattle.table.specs.declared.LogicalPartition.{LogicalPartition}
+use Rattle.block.specs.Block.{part, entryPart, slotPart}
+
+-- another count
+abbrev pub withCount : List ℕ → ℕ → List ℕ
+withCount b n = put b 12 (bytesOf little 4 n)
+
+-- one logical partition behind n others
+unfoldable pub withSlot : List ℕ → ℕ → LogicalPartition → List ℕ
+withSlot b n l = put (withCount b (n + 1)) (540 + 482 * n) (slotPart l)
+
+-- n logical partitions without number k, counted from 0: the later slots stand one earlier, the old last one stays
+unfoldable pub withoutSlot : List ℕ → ℕ → ℕ → List ℕ
+withoutSlot b n k = put (withCount b (n - 1)) (540 + 482 * k) (part b (540 + 482 * (k + 1)) (482 * (n - 1 - k)))
+
+-- the primary number i, 1 to 4, is the empty entry
+unfoldable pub withoutEntry : List ℕ → ℕ → List ℕ
+withoutEntry b i = put b (466 + 18 * (i - 1)) (entryPart noEntry)
+
+-- another sector size and D
+unfoldable pub withDisk : List ℕ → ℕ → ℕ → List ℕ
+withDisk b size disk = put b 0 (bytesOf little 4 size ++ bytesOf little 4 disk)

@@ -1,0 +1,30 @@
+use Rattle.block.specs.Block.{slotOf}
+use Rattle.block.proofs.Inside.{slot-in}
+use mathlib.Core.List.{List}
+use mathlib.Core.Path.{_≡_, sym, ap, _∙_}
+use Prim.Native.Nat.{ℕ}
+use Rattle.table.specs.declared.LogicalPartition.{LogicalPartition}
+use borrow.Author.Needs.{needs}
+use Rattle.inside.proofs.ebr_lba.Statement.{statement}
+use Rattle.inside.proofs.ebr_lba.Tie as tie
+
+mul-part-of : tie.Need-mul-part-of
+mul-part-of c = search needs
+
+add-part-of : tie.Need-add-part-of
+add-part-of c = search needs
+
+part-of-requires : tie.Need-part-of-requires
+part-of-requires c κs = search needs
+
+get32-requires : tie.Need-get32-requires
+get32-requires c κs = search needs
+
+returns : tie.Need-returns
+returns c =
+    let a = c .before .before .before .args in
+    let p = ap (λ (s : List ℕ). slotOf s .«absolute_ebr_lba» .0) (c .before .part-of .ensures .0) in
+    c .get32 .ensures ∙ p ∙ sym (ap (λ (l : LogicalPartition). l .«absolute_ebr_lba» .0) (slot-in (a .b .now) (a .i) (c .before .before .before .pre .1)))
+
+pub ebr-lba-spec : {M : Type 1} → statement M
+ebr-lba-spec = tie.close (tie.spec mul-part-of add-part-of part-of-requires get32-requires returns)

@@ -1,0 +1,91 @@
+use lib.ListN.{length, take}
+use Prim.Native.Nat.{_-_, _≤_, _<_}
+use mathlib.Core.Path.{_≡_, refl, _∙_}
+use native.Mathlib.Omega.{arith}
+use Rattle.base.specs.Put.{put}
+use Rattle.block.specs.Block.{slotsPart, tableIn}
+use Rattle.block.specs.Fits.{SlotsFit}
+use Rattle.settle.specs.Settle.{settledIn}
+use Rattle.leave.proofs.Laws.{leave-start, turn-held, turn-in, turn-none, turn-same, turn-put, leave-end}
+use borrow.Author.Needs.{needs}
+use Rattle.leave.proofs.leave.Statement.{statement}
+use Rattle.leave.proofs.leave.Tie as tie
+
+abbrev Inv-loop : tie.InvT-loop
+Inv-loop b₀ x n i₀ b i = (i ≤ n) × (length b ≡ length b₀) × (b ≡ put b₀ 540 (slotsPart (take i (settledIn (tableIn b₀) x)))) × SlotsFit (take i (settledIn (tableIn b₀) x))
+
+abbrev μ-loop : tie.MeasureT-loop
+μ-loop b₀ x n i₀ b i = n - i
+
+count-requires : tie.Need-count-requires Inv-loop μ-loop
+count-requires c κs = search needs
+
+loop-holds : tie.Need-loop-holds Inv-loop μ-loop
+loop-holds c =
+    let a = c .before .before .before .args in
+    (search needs, refl, leave-start (a .b .now) (settledIn (tableIn (a .b .now)) (a .x)), tt)
+
+-- what a turn starts from: a logical partition is left to put
+module _ (c : tie.In-loop Inv-loop μ-loop) where
+  abbrev a : tie.Start Inv-loop μ-loop
+  a = c .before .before .before .before .before
+
+  here : c .before .loop .i < tableIn (a .args .b .now) .count
+  here = omega (arith, c .loop-test .taken, c .before .before .count .ensures)
+
+addressed-slot-requires : tie.Need-addressed-slot-requires Inv-loop μ-loop
+addressed-slot-requires c κs =
+    let s = c .before .before .before .before .before .before in
+    let l = c .before .before .loop in
+    let k = here (c .before) in
+    (turn-held (s .args .b .now) (l .b) (s .args .x) (l .i) (s .pre .0) k (l .inv .3) (l .inv .2), turn-in (s .args .b .now) (l .b) (s .args .x) (l .i) (s .pre .0) k (l .inv .3) (l .inv .2))
+
+put-fit-requires : tie.Need-put-fit-requires Inv-loop μ-loop
+put-fit-requires c κs =
+    let s = c .before .before .before .before .before .before .before .before .before in
+    let l = c .before .before .before .before .before .loop in
+    (l .inv .1 ∙ s .pre .0 .0, omega (arith, here (c .before .before .before .before), s .pre .0 .1))
+
+add-i : tie.Need-add-i Inv-loop μ-loop
+add-i c = search needs
+
+loop-less : tie.Need-loop-less Inv-loop μ-loop
+loop-less c = search needs
+
+loop-again : tie.Need-loop-again Inv-loop μ-loop
+loop-again c =
+    let s = c .before .before .before .before .before .before .before .before .before .before .before .before in
+    let d = s .args .b .now in
+    let x = s .args .x in
+    let l = c .before .before .before .before .before .before .before .before .loop in
+    let k = here (c .before .before .before .before .before .before .before) in
+    let v = c .before .before .before .before .before .addressed-slot .ensures in
+    let p = c .before .before .put-fit .ensures in
+    let e = v .1 (v .0 ∙ turn-none d (l .b) x (l .i) (s .pre .0) k (l .inv .3) (l .inv .2) (s .pre .1)) ∙ turn-same d (l .b) x (l .i) (s .pre .0) k (l .inv .3) (l .inv .2) in
+    let w = turn-put d (l .b) x (l .i) (s .pre .0) k (l .inv .3) (l .inv .2) _ _ e (p .1) (p .0) in
+    (search needs, search needs, w .0, w .1)
+
+same-length : tie.Need-same-length Inv-loop μ-loop
+same-length c = search needs
+
+returns : tie.Need-returns Inv-loop μ-loop
+returns c =
+    let s = c .before .before .before .before .before in
+    let l = c .before .loop in
+    leave-end (s .args .b .now) (l .b) (s .args .x) (l .i) (s .pre .0) (omega (arith, c .loop-test .left, c .before .before .count .ensures)) (l .inv .3) (l .inv .2)
+
+pub leave-spec : {M : Type 1} → statement M
+leave-spec =
+    tie.close
+    (tie.spec
+    Inv-loop
+    μ-loop
+    count-requires
+    loop-holds
+    addressed-slot-requires
+    put-fit-requires
+    add-i
+    loop-less
+    loop-again
+    same-length
+    returns)

@@ -1,0 +1,37 @@
+use mathlib.Core.Path.{sym, ap, _∙_}
+use Rattle.base.specs.Checks.{first-fail}
+use Rattle.table.specs.declared.LogicalPartition.{LogicalPartition}
+use Rattle.table.specs.Table.{logicals}
+use Rattle.address.specs.declared.Geometry.{Geometry}
+use Rattle.block.specs.Block.{tableIn}
+use Rattle.push.specs.Push.{geometryOf}
+use Rattle.settle.specs.Settle.{byGeometry, slotGeometry}
+use Rattle.settle.proofs.Laws.{settled-at, held-in}
+use borrow.Author.Needs.{needs}
+use Rattle.settle.proofs.addressed_slot.Statement.{statement}
+use Rattle.settle.proofs.addressed_slot.Tie as tie
+
+placed-slot-requires : tie.Need-placed-slot-requires
+placed-slot-requires c κs = search needs
+
+geometry-requires : tie.Need-geometry-requires
+geometry-requires c κs = search needs
+
+with-geometry-requires : tie.Need-with-geometry-requires
+with-geometry-requires c κs = search needs
+
+returns : tie.Need-returns
+returns c =
+    let s = c .before .before .before .before in
+    let a = s .args in
+    let t = tableIn (a .b .now) in
+    let q = geometryOf t in
+    let l = c .before .before .placed-slot .result in
+    let g = c .before .geometry .ensures in
+    let p = c .before .before .placed-slot .ensures in
+    let w = c .with-geometry .ensures in
+    (w .0 ∙ ap (λ (g : Geometry). first-fail (slotGeometry g l)) g ∙ ap (λ (l : LogicalPartition). first-fail (slotGeometry q l)) p, λ z. w .1 z ∙ ap (λ (g : Geometry). byGeometry g l) g ∙ ap (byGeometry q) p ∙ sym (settled-at q (a .x) (a .i) (logicals t) (held-in (a .b .now) (s .pre .0) (a .x) (a .i) (s .pre .1))))
+
+pub addressed-slot-spec : {M : Type 1} → statement M
+addressed-slot-spec =
+    tie.close (tie.spec placed-slot-requires geometry-requires with-geometry-requires returns)

@@ -1,0 +1,18 @@
+use mathlib.Core.Path.{_∙_}
+use Rattle.settle.proofs.Laws.{held-none}
+use borrow.Author.Needs.{needs}
+use Rattle.settle.proofs.settled_slot.Statement.{statement}
+use Rattle.settle.proofs.settled_slot.Tie as tie
+
+addressed-slot-requires : tie.Need-addressed-slot-requires
+addressed-slot-requires c κs = search needs
+
+returns : tie.Need-returns
+returns c =
+    let s = c .before .before .before in
+    let a = s .args in
+    let r = c .before .addressed-slot .ensures in
+    r .1 (r .0 ∙ held-none (a .b .now) (s .pre .0) (a .x) (a .i) (s .pre .1) (s .pre .2))
+
+pub settled-slot-spec : {M : Type 1} → statement M
+settled-slot-spec = tie.close (tie.spec addressed-slot-requires returns)

@@ -17,8 +17,10 @@ from pathlib import Path
 
 HERE = Path(__file__).resolve().parent
 sys.path.insert(0, str(HERE.parent / "second"))
+sys.path.insert(0, str(HERE))
 import model as m  # noqa: E402
 import replay  # noqa: E402
+import x86  # noqa: E402
 
 PROGRAM, PRELOAD = sys.argv[1], sys.argv[2]
 SFDISK = sys.argv[3] if len(sys.argv) > 3 and sys.argv[3] else None
@@ -33,11 +35,13 @@ def fail(what, *more):
 
 def run(*args, how=None, at=0, cut=0, log=None):
     env = dict(os.environ)
+    words = x86.words(PROGRAM, *args)
     if how or log:
-        env.update(LD_PRELOAD=PRELOAD, STATION_HOW=how or "", STATION_AT=str(at), STATION_CUT=str(cut))
+        words, more = x86.preloaded(PRELOAD, PROGRAM, *args)
+        env.update(more, STATION_HOW=how or "", STATION_AT=str(at), STATION_CUT=str(cut))
     if log:
         env["STATION_LOG"] = log
-    return subprocess.run([PROGRAM, *map(str, args)], env=env, stdout=subprocess.PIPE, stderr=subprocess.PIPE)
+    return subprocess.run(words, env=env, stdout=subprocess.PIPE, stderr=subprocess.PIPE)
 
 
 class Image:

@@ -1,7 +1,8 @@
 /* Crumbvessel for programs in C: MBR tables from extracts, as bytes and numbers. x86-64 Linux.
  *
- * Link the archives of the functions in use: libabi.a, libabicareful.a, libabitable.a, libabiedit.a, libabilook.a,
- * libabisound.a, libabifree.a, libabiwrite.a, libabiheader.a, libabichs.a (`rt staticlib NAME` makes libNAME.a).
+ * Link the archives of the functions in use: libabi.a, libabiaddress.a, libabicareful.a, libabitable.a, libabiedit.a,
+ * libabilook.a, libabisound.a, libabifree.a, libabiwrite.a, libabiheader.a, libabichs.a (`rt staticlib NAME` makes
+ * libNAME.a).
  *
  * Lent bytes are an address and a length. The address is never null, also where the length is 0. Bytes that a function
  * writes overlap nothing else that the same call is lent. No function keeps an address or allocates. A refusal leaves
@@ -110,7 +111,7 @@ static inline uint8_t cv_sector(uint64_t answer) { return (uint8_t)answer; }
 #define CV_ENTRY_START 10
 #define CV_ENTRY_SECTORS 14
 
-/* libabi.a */
+/* libabiaddress.a */
 
 /* The address of a sector; 7, 13, 14. */
 uint64_t cv_chs_from_lba_exact(uint32_t lba, uint16_t cylinders, uint8_t heads, uint8_t sectors);
@@ -125,6 +126,9 @@ uint32_t cv_chs_to_bytes(uint16_t cylinder, uint8_t head, uint8_t sector);
 uint64_t cv_chs_from_bytes(uint8_t one, uint8_t two, uint8_t three);
 /* Whether a type is an extended partition's: 05, 0F, 85, C5, D5. */
 bool cv_is_extended(uint8_t type);
+
+/* libabi.a */
+
 /* 0, or 1 for an extract that breaks a rule. */
 uint8_t cv_extract_check(const uint8_t *x, size_t x_length);
 /* The offset in the extract at which the record of a sector stands, 512 bytes; CV_NOTHING if it is absent or refused:

@@ -9,7 +9,7 @@ ghost use lib.ListN.{length};
 ghost use Rattle.careful.specs.Careful.{carefulPushSays, carefulRemoveSays};
 ghost use Rattle.careful.specs.Output.{outAfter, counted};
 ghost use Rattle.change.specs.Change.{changedSaid};
-ghost use Rattle.abi.specs.Packed.{packed};
+ghost use Rattle.packed.specs.Packed.{packed};
 ghost use Rattle.abicareful.specs.Asked.{asked};
 
 fn of_changed(c: Changed) -> u64
@@ -17,7 +17,7 @@ fn of_changed(c: Changed) -> u64
 {
     match c {
         Changed::Stores(n) => n as u64,
-        Changed::Refused(k) => abi::upper(k),
+        Changed::Refused(k) => packed::upper(k),
     }
 }
 

@@ -15,7 +15,7 @@ use Rattle.block.specs.Block.{slotPart, slotOf, slotTagged}
 use Rattle.blockwrite.proofs.Parts.{whole}
 use Rattle.address.specs.declared.Geometry.{Geometry}
 use Rattle.push.specs.Address.{updateChs}
-use Rattle.abi.specs.Packed.{status}
+use Rattle.packed.specs.Packed.{status}
 use Rattle.abichs.specs.Slot.{slotSays, slotAfter}
 
 pub addresses-refused : (s : Said LogicalPartition) (k : ℕ) (slot : List ℕ) → failure s ≡ some k → (k ≡ status (failure s)) × (slot ≡ slotAfter slot s)

@@ -7,7 +7,7 @@ ghost use lib.ListN.{length};
 ghost use Rattle.base.specs.Said.{failure};
 ghost use Rattle.push.specs.Answers.{geometryIn};
 ghost use Rattle.push.specs.Address.{updateChs};
-ghost use Rattle.abi.specs.Packed.{status};
+ghost use Rattle.packed.specs.Packed.{status};
 ghost use Rattle.abichs.specs.Slot.{slotSays, slotAfter};
 
 // The bytes of a slot in a block.

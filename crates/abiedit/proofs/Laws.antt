@@ -9,8 +9,9 @@ use Rattle.base.specs.declared.Answer.{Answer}
 use Rattle.base.specs.declared.Answer.the-variants.{Done, Refused}
 use Rattle.table.specs.declared.MBR.{MBR}
 use Rattle.lookup.specs.declared.TableAnswer.{TableAnswer}
-use Rattle.abitable.specs.Blocks.{number, blockAfter, alone}
-use Rattle.abiedit.specs.Edit.{givenBy, tableSaid}
+use Rattle.onblock.specs.Blocks.{number}
+use Rattle.blockput.specs.Put.{blockAfter, alone}
+use Rattle.blocknew.specs.Given.{givenBy, tableSaid}
 
 given-is : (a : Answer) (t o : MBR) (s : Said MBR) → refusal a ≡ failure s → t ≡ valueOr o s → givenBy a t ≡ s
 given-is Done t o (gives u) h e = ap gives e

@@ -1,26 +1,13 @@
 -- Reading and writing a header alone, the header as the 520 bytes that it has in a block. Assumes nothing.
 use Prim.Native.Nat.{ℕ}
-use mathlib.Core.List.{List, [], _∷_}
-use lib.Dec.{eqb}
+use mathlib.Core.List.{List}
 use lib.ListN.{length}
-use Rattle.base.specs.Said.{Said, gives, refuses, andThen}
-use Rattle.base.specs.Checks.{Check, _!_, answer}
+use Rattle.base.specs.Said.{Said, gives, refuses}
+use Rattle.base.specs.Checks.{answer}
 use Rattle.mbr.specs.declared.MBRHeader.{MBRHeader}
-use Rattle.block.specs.Block.{headerPart, headerIn}
-use Rattle.write.specs.Answers.{headerSays, headerLeaves}
-
--- lent bytes of another length 101
-abbrev pub lengthChecks : ℕ → List Check
-lengthChecks n = (101 ! eqb n 520) ∷ []
-
--- a header for lent bytes of this length: 101 after its own refusals
-abbrev pub headerFor : Said MBRHeader → ℕ → Said MBRHeader
-headerFor s room = andThen s (λ h. answer (lengthChecks room) h)
-
--- the lent bytes afterwards: a refusal leaves them as they were
-abbrev pub headerAfter : List ℕ → Said MBRHeader → List ℕ
-headerAfter out (refuses k) = out
-headerAfter out (gives h) = headerPart h
+use Rattle.block.specs.Block.{headerIn}
+use Rattle.writing.specs.Answers.{headerLeaves}
+use Rattle.headerbytes.specs.Header.{lengthChecks}
 
 -- the header in lent bytes
 abbrev pub lentHeader : List ℕ → Said MBRHeader

@@ -4,8 +4,8 @@ use soundtest::Soundness;
 use table::MBR;
 ghost use mathlib.Core.Path.{_≡_};
 ghost use Rattle.base.specs.Said.{andThen};
-ghost use Rattle.abi.specs.Packed.{packedBool};
-ghost use Rattle.abitable.specs.Blocks.{blockSays};
+ghost use Rattle.packed.specs.Packed.{packedBool};
+ghost use Rattle.onblock.specs.Blocks.{blockSays};
 ghost use Rattle.abisound.specs.Sound.{soundSays};
 
 fn sound_on(t: MBR) -> u64
@@ -14,7 +14,7 @@ fn sound_on(t: MBR) -> u64
     match soundtest::sound(t) {
         Soundness::Sound => 1,
         Soundness::Unsound => 0,
-        Soundness::Refused(k) => abi::upper(k),
+        Soundness::Refused(k) => packed::upper(k),
     }
 }
 
@@ -24,7 +24,7 @@ pub extern "C" fn cv_is_sound(b: &[u8]) -> u64
     ensures { λ r. ⌜ r ≡ packedBool (andThen (blockSays (now (b .entry))) soundSays) ⌝ }
 {
     match blockread::check(b) {
-        Answer::Refused(k) => abi::upper(k),
+        Answer::Refused(k) => packed::upper(k),
         Answer::Done => {
             let t = partread::get_table(b);
             sound_on(t)

@@ -1,5 +1,4 @@
 -- A logical partition that push makes fits a block's slot. Assumes nothing.
-use mathlib.Core.Path.{_≡_, refl, _∙_}
 use mathlib.Core.Bool.{Bool, true, false}
 use mathlib.Core.Option.{Option}
 use mathlib.Core.List.{List, [], _∷_, _++_}
@@ -105,17 +104,3 @@ push-fits q o n h =
     let a : AllHold A = hold-right (R ++ P ++ E) A h₁ in
     let c : AllHold C = hold-right (R ++ P ++ E ++ A) C h in
     (new-fits (laterThan n) q (fresh-fits (laterThan n) q (ltb-true _ _ (r .1 .1 .1 .0)) (ltb-true _ _ (r .1 .1 .1 .1 .1 .0)) (ltb-true _ _ (p .1 .1 .0))) a, ltb-true _ _ (c .0))
-
--- and has no code
-kept-either : (b : Bool) (g : Geometry) (l : LogicalPartition) → pick b (addressed g l) l .kept ≡ l .kept
-unfolding addressed
-kept-either true g l = refl
-kept-either false g l = refl
-
-fresh-kept : (later : Bool) (q : Request) → fresh later q .kept ≡ noKept
-unfolding fresh
-fresh-kept later q = refl
-
-pub new-kept : (later : Bool) (q : Request) → newLogical later q .kept ≡ noKept
-unfolding newLogical
-new-kept later q = kept-either (complete (q .geometry)) (q .geometry) (fresh later q) ∙ fresh-kept later q

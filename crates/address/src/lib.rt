@@ -7,15 +7,11 @@ use table::LogicalPartition;
 use table::MaybeChs;
 use table::MaybeSectors;
 ghost use mathlib.Core.Path.{_≡_};
-ghost use mathlib.Core.Option.{none, some};
-ghost use Prim.Native.Nat.{_+_, _-_, _<_};
-ghost use mathlib.Core.List.{[]};
-ghost use Rattle.base.specs.Pick.{pick};
-ghost use Rattle.base.specs.Said.{refusal, failure, valueOr};
-ghost use Rattle.base.specs.Checks.{first-fail, answer};
+ghost use Prim.Native.Nat.{_+_, _-_};
+ghost use Rattle.base.specs.Checks.{answer};
 ghost use Rattle.chs.specs.Chs.{placed};
-ghost use Rattle.address.specs.Address.{complete, lastChecks, linkChecks, addressIn, linkAddress, updateChecks, addressed, updateChs};
-ghost use Rattle.address.specs.Answers.{geometryIn, linkedSaid, settled, withAddresses};
+ghost use Rattle.address.specs.Address.{complete, lastChecks, linkChecks, addressIn, linkAddress};
+ghost use Rattle.address.specs.Answers.{linkedSaid, withAddresses};
 
 // A disk's cylinders, heads and sectors in a track.
 pub struct Geometry {
@@ -56,7 +52,7 @@ pub fn is_complete(g: Geometry) -> bool
 }
 
 // The address of the last of n sectors: the sum before the minus one is tested, 7, 13, 14.
-fn last_of(g: Geometry, lba: u32, n: u32) -> Placed
+pub fn last_of(g: Geometry, lba: u32, n: u32) -> Placed
     ensures { λ r. ⌜ placed r ≡ answer (lastChecks g lba n) (addressIn g (lba + n - 1)) ⌝ }
 {
     let end = lba as u64 + n as u64;
@@ -70,7 +66,7 @@ fn last_of(g: Geometry, lba: u32, n: u32) -> Placed
 }
 
 // The address of a link's last sector, if there is a link.
-fn link_last(g: Geometry, lba: u32, sectors: MaybeSectors) -> Linked
+pub fn link_last(g: Geometry, lba: u32, sectors: MaybeSectors) -> Linked
     ensures { λ r. ⌜ linkedSaid r ≡ answer (linkChecks g lba sectors) (linkAddress g lba sectors) ⌝ }
 {
     match sectors {
@@ -83,7 +79,7 @@ fn link_last(g: Geometry, lba: u32, sectors: MaybeSectors) -> Linked
 }
 
 // The partition with other addresses.
-fn with_addresses(l: LogicalPartition, a: CHS, b: CHS, c: CHS, d: MaybeChs) -> LogicalPartition
+pub fn with_addresses(l: LogicalPartition, a: CHS, b: CHS, c: CHS, d: MaybeChs) -> LogicalPartition
     ensures { λ r. ⌜ r ≡ withAddresses l a b c d ⌝ }
 {
     let p = l.partition;
@@ -106,78 +102,4 @@ fn with_addresses(l: LogicalPartition, a: CHS, b: CHS, c: CHS, d: MaybeChs) -> L
         ebr_last_chs: d,
         kept: kept,
     }
-}
-
-pub fn as_given(l: LogicalPartition, k: u8) -> Updated
-    ensures { λ r. ⌜ (refusal (r .answer) ≡ some k) × (r .logical ≡ l) ⌝ }
-{
-    Updated {
-        answer: Answer::Refused(k),
-        logical: l,
-    }
-}
-
-// The four addresses, in their order: the first refusal, or the partition with them.
-fn settle(l: LogicalPartition, first: Placed, last: Placed, link: Placed, end: Linked) -> Updated
-    ensures { λ r. ⌜ refusal (r .answer) ≡ failure (settled l (placed first) (placed last) (placed link) (linkedSaid end)) ⌝ }
-    ensures { λ r. ⌜ r .logical ≡ valueOr l (settled l (placed first) (placed last) (placed link) (linkedSaid end)) ⌝ }
-{
-    match first {
-        Placed::Refused(k) => as_given(l, k),
-        Placed::At(a) => match last {
-            Placed::Refused(k) => as_given(l, k),
-            Placed::At(b) => match link {
-                Placed::Refused(k) => as_given(l, k),
-                Placed::At(c) => match end {
-                    Linked::Refused(k) => as_given(l, k),
-                    Linked::At(d) => Updated {
-                        answer: Answer::Done,
-                        logical: with_addresses(l, a, b, c, d),
-                    },
-                },
-            },
-        },
-    }
-}
-
-// The partition with its four addresses.
-fn update(g: Geometry, l: LogicalPartition) -> Updated
-    ensures { λ r. ⌜ refusal (r .answer) ≡ failure (updateChs g l) ⌝ }
-    ensures { λ r. ⌜ r .logical ≡ valueOr l (updateChs g l) ⌝ }
-{
-    let p = l.partition;
-    let place = l.absolute_ebr_lba;
-    let sectors = l.ebr_sectors;
-    let first = CHS::from_lba_exact(p.starting_lba, g.cylinders, g.heads, g.sectors);
-    let last = last_of(g, p.starting_lba, p.sectors);
-    let link = CHS::from_lba_exact(place.0, g.cylinders, g.heads, g.sectors);
-    let end = link_last(g, place.0, sectors);
-    settle(l, first, last, link, end)
-}
-
-// Alters a logical partition's four addresses and nothing else: each 7, 13, 14.
-pub fn update_chs(l: LogicalPartition, cylinders: u16, heads: u8, sectors: u8) -> Updated
-    ensures { λ r. ⌜ refusal (r .answer) ≡ failure (updateChs (geometryIn cylinders heads sectors) l) ⌝ }
-    ensures { λ r. ⌜ r .logical ≡ valueOr l (updateChs (geometryIn cylinders heads sectors) l) ⌝ }
-{
-    let g = Geometry {
-        cylinders: cylinders,
-        heads: heads,
-        sectors: sectors,
-    };
-    update(g, l)
-}
-
-// The partition with its addresses, if the geometry is complete.
-pub fn with_geometry(g: Geometry, l: LogicalPartition) -> Updated
-    ensures { λ r. ⌜ refusal (r .answer) ≡ first-fail (pick (complete g) (updateChecks g l) []) ⌝ }
-    ensures { λ r. ⌜ (refusal (r .answer) ≡ none → r .logical ≡ pick (complete g) (addressed g l) l) ⌝ }
-{
-    if !is_complete(g) {
-        return Updated {
-            answer: Answer::Done,
-            logical: l,
-        };
-    }
-    update(g, l)
 }

@@ -16,7 +16,7 @@ pub fn check(b: &[u8]) -> Answer
     if (LOGICALS as u32) < base::get32(b, 12) {
         return Answer::Refused(6);
     }
-    if !partread::all_tagged(b) {
+    if !tags::all_tagged(b) {
         return Answer::Refused(102);
     }
     Answer::Done

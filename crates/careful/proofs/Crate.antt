@@ -20,8 +20,8 @@ use Rattle.chain.specs.Facts.{View, Holds, seen}
 use Rattle.read.specs.Read.{Table, tableOf}
 use Rattle.request.specs.declared.Request.{Request}
 use Rattle.push.specs.Push.{isSome, orNone, laterThan, roundChecks, placeChecks, endChecks, geometryChecks, pushChecks, pushed, tableChecks, pushedTo, pushTable}
-use Rattle.lookup.specs.Remove.{without, removedTable}
-use Rattle.lookup.proofs.Laws.{without-logicals}
+use Rattle.remove.specs.Remove.{without, removedTable}
+use Rattle.less.proofs.Laws.{without-logicals}
 use Rattle.push.proofs.Laws.{logicals-pushed}
 use Rattle.sound.specs.Sound.{Contents, contentsOf, extendedIn, soundb}
 use Rattle.careful.specs.Stores.{firstPlace, leftOut}

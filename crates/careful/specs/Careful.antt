@@ -15,11 +15,12 @@ use Rattle.extract.specs.Answers.{checkSays}
 use Rattle.table.specs.declared.LogicalPartition.{LogicalPartition}
 use Rattle.table.specs.declared.MBR.{MBR}
 use Rattle.read.specs.Read.{Table, read, tableOf}
-use Rattle.lookup.specs.Remove.{removedTable}
+use Rattle.remove.specs.Remove.{removedTable}
 use Rattle.address.specs.declared.Geometry.{Geometry}
 use Rattle.request.specs.declared.Request.{Request}
 use Rattle.push.specs.Push.{placeOf, sizeOf, laterThan, newLogical, pushChecks, pushed, pushTable}
 use Rattle.sound.specs.Sound.{Contents, contentsOf, extendedIn, areaEnd, end, soundb}
+pub use Rattle.stored.specs.Stored.{roomNeeded}
 use Rattle.careful.specs.Stores.{firstPlace, leftOut, lastOf, pushStores, removeStore}
 
 -- what is read, but for the alignment, which no disk holds
@@ -38,10 +39,6 @@ areaOf t = Option·getD (extendedIn t) noEntry
 pub record Change : Type 0 where
   pub stores : List Store
   pub result : Contents
-
--- the lent output holds two stores
-abbrev pub roomNeeded : ℕ
-roomNeeded = 1032
 
 -- a geometry that would be complete but for more than 63 sectors
 unfoldable pub tooWide : Geometry → Bool

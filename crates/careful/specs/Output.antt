@@ -1,20 +1,13 @@
 -- Stores in lent bytes: each its LBA (4 bytes, little-endian) and a record. Assumes nothing.
 use Prim.Native.Nat.{ℕ, zero, suc}
-use mathlib.Core.List.{List, [], _∷_, _++_}
+use mathlib.Core.List.{List, [], _∷_}
 use lib.ListN.{length, take, drop}
-use Rattle.base.specs.Bytes.{number, bytesOf, little}
+use Rattle.base.specs.Bytes.{number, little}
 use Rattle.base.specs.Put.{put}
 use Rattle.base.specs.Said.{Said, gives, refuses, andThen}
 use Rattle.extract.specs.Disk.{Store}
 use Rattle.careful.specs.Careful.{Change}
-
-unfoldable pub storeBytes : Store → List ℕ
-storeBytes s = bytesOf little 4 (s .lba) ++ s .bytes
-
--- one after another
-unfoldable pub storesBytes : List Store → List ℕ
-storesBytes [] = []
-storesBytes (s ∷ ss) = storeBytes s ++ storesBytes ss
+unfoldable pub use Rattle.stored.specs.Stored.{storeBytes, storesBytes}
 
 -- the first n stores in lent bytes
 unfoldable pub storesIn : List ℕ → ℕ → List Store

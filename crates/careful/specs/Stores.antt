@@ -6,27 +6,9 @@ use lib.ListN.{take, drop}
 use Rattle.base.specs.Row.{next}
 use Rattle.entry.specs.declared.MBRPartitionEntry.{MBRPartitionEntry}
 use Rattle.extract.specs.Disk.{Store}
-use Rattle.extract.specs.Extract.{blank}
-use Rattle.table.specs.declared.MaybeSectors.the-variants.{Absent}
-use Rattle.table.specs.declared.MaybeChs.the-variants.{Absent as NoChs}
 use Rattle.table.specs.declared.LogicalPartition.{LogicalPartition}
 use Rattle.links.specs.Links.{write}
-
--- 512 zeros at X
-unfoldable pub wipe : MBRPartitionEntry → Store
-wipe e = record { lba = e .«starting_lba»; bytes = blank }
-
--- the EBR at X, without link sectors and last link CHS, its first link CHS the extended entry's
-unfoldable pub moved : MBRPartitionEntry → LogicalPartition → LogicalPartition
-moved e l =
-    record {
-      partition = l .partition;
-      «absolute_ebr_lba» = record { 0 = e .«starting_lba» };
-      «ebr_sectors» = Absent;
-      «ebr_first_chs» = e .«first_chs»;
-      «ebr_last_chs» = NoChs;
-      kept = l .kept;
-    }
+unfoldable pub use Rattle.stored.specs.Stored.{wipe, moved}
 
 -- the first-place rule: so is the first logical after the change
 unfoldable pub firstPlace : MBRPartitionEntry → List LogicalPartition → List LogicalPartition

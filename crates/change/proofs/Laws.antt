@@ -31,11 +31,12 @@ use Rattle.careful.specs.Careful.{contents, Change, roomNeeded, askChecks, last
 use Rattle.careful.specs.Output.{storesBytes, outAfter, countOf, counted}
 use Rattle.careful.proofs.Accepted.{place-hold}
 use Rattle.careful.proofs.Crate.{slots-front}
-use Rattle.pushstore.specs.declared.Changed.{Changed}
-use Rattle.pushstore.specs.Behind.{changedSaid, Tells, spaceBehind, storesBehind}
+use Rattle.pushwrite.specs.declared.Changed.{Changed}
+use Rattle.pushwrite.specs.Behind.{changedSaid, Tells, storesBehind}
+use Rattle.pushstore.specs.Space.{spaceBehind}
 use Rattle.change.specs.Change.{lastIn, checksBehind}
 use Rattle.change.proofs.Lists.{stores-behind}
-pub use Rattle.pushstore.proofs.Laws.{store-written, one-store, tells-refused, tells-stored, tells-same}
+use Rattle.pushwrite.proofs.Laws.{tells-same}
 
 -- from the refusals and stores to what a careful change says
 out-answer : (old : List ℕ) (cs : List Check) (ch : Change) → outAfter old (answer cs ch) ≡ checked cs (λ j. old) (put old 0 (storesBytes (ch .stores)))

@@ -1,4 +1,4 @@
--- The last logical partition, links, and the stores of a push. Assumes nothing.
+-- The last logical partition, and the stores of a push. Assumes nothing.
 use mathlib.Core.Path.{_≡_, refl, ap, _∙_}
 use mathlib.Core.List.{List, [], _∷_}
 use Prim.Native.Nat.{ℕ, _-_, _<_}
@@ -9,9 +9,8 @@ use Rattle.entry.specs.declared.MBRPartitionEntry.{MBRPartitionEntry}
 use Rattle.table.specs.declared.LogicalPartition.{LogicalPartition}
 use Rattle.table.specs.Table.{noLogical}
 use Rattle.careful.specs.Stores.{lastOf, pushStores}
-use Rattle.pushstore.specs.Behind.{storesBehind}
+use Rattle.pushwrite.specs.Behind.{storesBehind}
 use Rattle.change.specs.Change.{lastIn}
-pub use Rattle.pushstore.proofs.Lists.{link-none, write-linked}
 
 -- the last one
 last-at : (l : LogicalPartition) (ls : List LogicalPartition) → lastOf l ls ≡ getD (l ∷ ls) (length ls) noLogical

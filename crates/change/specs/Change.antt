@@ -13,7 +13,7 @@ use Rattle.push.specs.Push.{placeOf, sizeOf, pushChecks}
 use Rattle.sound.specs.Sound.{end}
 use Rattle.careful.specs.Stores.{lastOf}
 use Rattle.careful.specs.Careful.{roomNeeded}
-pub use Rattle.pushstore.specs.Behind.{changedSaid, Tells, linkTo, linked}
+pub use Rattle.pushwrite.specs.Behind.{changedSaid, Tells}
 
 -- the last one; an empty slot ends at 0
 unfoldable pub lastIn : List LogicalPartition → LogicalPartition

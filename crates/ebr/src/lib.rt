@@ -52,11 +52,11 @@ pub fn open(r: &[u8]) -> Opened
     if !base::stands_at(r, 510, b"\x55\xAA") {
         return Opened::Shut(3);
     }
-    let first = entry::read(r, 446);
+    let first = entryread::read(r, 446);
     if !first.check() {
         return Opened::Shut(4);
     }
-    let second = entry::read(r, 462);
+    let second = entryread::read(r, 462);
     if !second.check() {
         return Opened::Shut(4);
     }

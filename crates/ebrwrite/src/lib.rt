@@ -18,9 +18,9 @@ pub fn write_at(d: &mut [u8], at: usize, h: EBRHeader)
     let code = kept.bootstrap_code;
     base::copy_in(d, at, &code);
     let one = h.partition_1;
-    entry::write(d, at + 446, one);
+    entrywrite::write(d, at + 446, one);
     let two = h.partition_2;
-    entry::write(d, at + 462, two);
+    entrywrite::write(d, at + 462, two);
     let zeros = [0u8; 32];
     base::copy_in(d, at + 478, &zeros);
     base::copy_in(d, at + 510, b"\x55\xAA");

@@ -1,10 +1,7 @@
 // A partition entry of an MBR or EBR record: 16 bytes.
 use chs::CHS;
 ghost use mathlib.Core.Path.{_≡_};
-ghost use Prim.Native.Nat.{_+_, _≤_};
-ghost use lib.ListN.{length};
-ghost use Rattle.base.specs.Put.{put};
-ghost use Rattle.entry.specs.Entry.{entryAt, entryBytes, noEntry, flagOk, used, unused, extended, active};
+ghost use Rattle.entry.specs.Entry.{noEntry, flagOk, used, unused, extended, active};
 
 pub const BOOT_ACTIVE: u8 = 0x80;
 
@@ -72,38 +69,4 @@ impl MBRPartitionEntry {
             _ => false,
         }
     }
-}
-
-// The entry in the 16 bytes from index `at` on.
-pub fn read(s: &[u8], at: usize) -> MBRPartitionEntry
-    requires { ⌜ at + 16 ≤ length (now s) ⌝ }
-    ensures { λ r. ⌜ r ≡ entryAt (now (s .entry)) at ⌝ }
-{
-    let first = chsbytes::read(s, at + 1);
-    let last = chsbytes::read(s, at + 5);
-    let start = base::get32(s, at + 8);
-    let sectors = base::get32(s, at + 12);
-    MBRPartitionEntry {
-        boot: s[at],
-        first_chs: first,
-        sys: s[at + 4],
-        last_chs: last,
-        starting_lba: start,
-        sectors: sectors,
-    }
-}
-
-// The entry into the 16 bytes from index `at` on.
-pub fn write(d: &mut [u8], at: usize, e: MBRPartitionEntry)
-    requires { ⌜ at + 16 ≤ length (now d) ⌝ }
-    ensures { λ _. ⌜ now (d .exit) ≡ put (now (d .entry)) at (entryBytes e) ⌝ }
-{
-    base::put8(d, at, e.boot);
-    let first = e.first_chs;
-    chsbytes::write(d, at + 1, first);
-    base::put8(d, at + 4, e.sys);
-    let last = e.last_chs;
-    chsbytes::write(d, at + 5, last);
-    base::put32(d, at + 8, e.starting_lba);
-    base::put32(d, at + 12, e.sectors);
 }

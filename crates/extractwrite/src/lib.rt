@@ -1,11 +1,9 @@
 // The parts of an extract, each byte written once.
-use extract::Extract;
 ghost use mathlib.Core.Path.{_≡_};
-ghost use Prim.Native.Nat.{_+_, _*_, _-_, _≤_};
+ghost use Prim.Native.Nat.{_≤_};
 ghost use lib.ListN.{length};
 ghost use Rattle.base.specs.Put.{put};
 ghost use Rattle.extractwrite.specs.Header.{headerBytes};
-ghost use Rattle.extractwrite.specs.Cut.{many, lbaParts, recordParts, allParts, Room};
 
 // The header of an extract of n records.
 pub fn put_header(out: &mut [u8], size: u32, disk: u32, n: usize)
@@ -18,52 +16,4 @@ pub fn put_header(out: &mut [u8], size: u32, disk: u32, n: usize)
     base::put32(out, 12, 24);
     base::put32(out, 16, (24 + n * 4) as u32);
     base::put32(out, 20, (24 + n * 516) as u32);
-}
-
-// The LBA list: of the n LBAs of x those before number p, the new one, those from number q on.
-fn put_lbas(out: &mut [u8], x: &[u8], n: usize, p: usize, q: usize, lba: u32)
-    requires { ⌜ Room (now x) n p q × (24 + many n p q * 4 ≤ length (now out)) ⌝ }
-    ensures { λ _. ⌜ now (out .exit) ≡ put (now (out .entry)) 24 (lbaParts (now (x .entry)) n p q lba) ⌝ }
-{
-    let cut = 24 + p * 4;
-    base::copy_in(out, 24, &x[24..cut]);
-    base::put32(out, cut, lba);
-    let rest = 24 + q * 4;
-    let end = 24 + n * 4;
-    base::copy_in(out, cut + 4, &x[rest..end]);
-}
-
-// The records behind m LBAs: of the n records of x those before number p, the new one, those from number q on.
-fn put_records(out: &mut [u8], at: usize, x: &[u8], n: usize, p: usize, q: usize, sector: &[u8])
-    requires { ⌜ Room (now x) n p q × (length (now sector) ≡ 512) × (at ≤ 4096) × (at + many n p q * 512 ≤ length (now out)) ⌝ }
-    ensures { λ _. ⌜ now (out .exit) ≡ put (now (out .entry)) at (recordParts (now (x .entry)) n p q (now (sector .entry))) ⌝ }
-{
-    let start = 24 + n * 4;
-    let cut = start + p * 512;
-    base::copy_in(out, at, &x[start..cut]);
-    let place = at + p * 512;
-    base::copy_in(out, place, sector);
-    let rest = start + q * 512;
-    let end = 24 + n * 516;
-    base::copy_in(out, place + 512, &x[rest..end]);
-}
-
-// The new extract, each byte once.
-pub fn put_extract(
-    out: &mut [u8],
-    x: &[u8],
-    e: Extract,
-    p: usize,
-    q: usize,
-    lba: u32,
-    sector: &[u8],
-)
-    requires { ⌜ Room (now x) (e .count) p q × (length (now sector) ≡ 512) × (many (e .count) p q ≤ 64) × (24 + many (e .count) p q * 516 ≤ length (now out)) ⌝ }
-    ensures { λ _. ⌜ now (out .exit) ≡ put (now (out .entry)) 0 (allParts (now (x .entry)) e p q lba (now (sector .entry))) ⌝ }
-{
-    let n = e.count;
-    let m = p + 1 + (n - q);
-    put_header(out, e.sector_size, e.disk_size, m);
-    put_lbas(out, x, n, p, q, lba);
-    put_records(out, 24 + m * 4, x, n, p, q, sector);
 }

@@ -2,5 +2,4 @@ pub mod Over
 pub mod Alike
 pub mod Slots
 pub mod Changes
-pub mod Down
 pub mod Kept

@@ -20,8 +20,8 @@ use Rattle.block.specs.Fits.{SlotFits, SlotsFit}
 use Rattle.block.proofs.Inside.{cylinders-in, heads-in, sectors-in, slot-in}
 use Rattle.block.proofs.Laws.{slots-snoc}
 use Rattle.block.proofs.Back.{length-slots}
-use Rattle.settle.specs.Settle.{atStart, firstAt, byGeometry, slotGeometry, Held, geometryChecks, settledIn}
-use Rattle.settle.proofs.Laws.{settled-at, settled-long, held-long, held-in, held-at, held-none}
+use Rattle.settled.specs.Settle.{atStart, firstAt, byGeometry, slotGeometry, Held, geometryChecks, settledIn}
+use Rattle.settled.proofs.Laws.{settled-at, settled-long, held-long, held-in, held-at, held-none}
 use Rattle.inblock.proofs.Over.{Alike, bytes-alike, put-before, put-behind}
 use Rattle.inblock.proofs.Alike.{slot-alike, count-alike}
 

@@ -8,7 +8,7 @@ ghost use Rattle.base.specs.Put.{put};
 ghost use Rattle.base.specs.Checks.{first-fail};
 ghost use Rattle.block.specs.Block.{slotPart, slotsPart, tableIn};
 ghost use Rattle.block.specs.Fits.{SlotFits, SlotsFit};
-ghost use Rattle.settle.specs.Settle.{Held, geometryChecks, settledIn};
+ghost use Rattle.settled.specs.Settle.{Held, geometryChecks, settledIn};
 
 // A logical partition into slot i, whose fields hold its numbers.
 fn put_fit(b: &mut [u8], i: usize, l: LogicalPartition)

@@ -21,7 +21,7 @@ fn put_table(d: &mut [u8], t: MBR) -> usize
     ensures { λ r. ⌜ (r ≡ length (tableText t)) × (now (d .exit) ≡ put (now (d .entry)) 0 (tableText t)) ⌝ }
 {
     let n = t.count as u32;
-    let at = text::put_first(d, t.disk_size, t.align, n);
+    let at = phrases::put_first(d, t.disk_size, t.align, n);
     let header = t.header;
     let at = entrylines::put_primaries(d, at, header);
     entrylines::put_logicals(d, at, t)
@@ -53,7 +53,7 @@ pub fn listing(x: &[u8], out: &mut [u8]) -> Listed
     let read = read::read_from(x);
     let said = read.answer;
     match said {
-        Outcome::Refused(k) => Listed::Length(text::put_refused(out, k.number)),
+        Outcome::Refused(k) => Listed::Length(phrases::put_refused(out, k.number)),
         Outcome::Done => {
             let t = read.table;
             Listed::Length(put_table(out, t))

@@ -50,7 +50,7 @@ fn way_to(x: &[u8], n: usize, found: &[usize], j: usize, extended: MBRPartitionE
         };
     }
     let r = extract::record_at(x, n, found[j - 1]);
-    let link = entry::read(r, 462);
+    let link = entryread::read(r, 462);
     way_of(link)
 }
 
@@ -62,7 +62,7 @@ pub fn part_at(x: &[u8], n: usize, i: usize) -> MBRPartitionEntry
 {
     let a = extract::lba_at(x, n, i);
     let r = extract::record_at(x, n, i);
-    let mut p = entry::read(r, 446);
+    let mut p = entryread::read(r, 446);
     p.starting_lba = p.starting_lba + a;
     p
 }

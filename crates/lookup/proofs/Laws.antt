@@ -1,16 +1,12 @@
--- What the answers determine, and, of `less`, the table after a removal. Assumes nothing.
+-- What the answers determine. Assumes nothing.
 use mathlib.Core.Path.{_≡_, refl, ap}
-use Prim.Native.Nat.{ℕ, _-_}
+use Prim.Native.Nat.{ℕ}
 use native.Mathlib.Omega.{arith}
 use Rattle.lookup.specs.declared.Got.{Got}
 use Rattle.lookup.specs.declared.Got.the-variants as got
 use Rattle.lookup.specs.declared.Count.{Count}
 use Rattle.lookup.specs.declared.Count.the-variants as count
-use Rattle.lookup.specs.declared.Spot.{Spot}
-use Rattle.lookup.specs.declared.Spot.the-variants as spot
 use Rattle.lookup.specs.Numbers.{gotSaid, countSaid}
-use Rattle.lookup.specs.Find.{spotSaid}
-pub use Rattle.less.proofs.Laws.{without-logicals}
 
 -- what an answer says determines it
 pub got-injective : (a b : Got) → gotSaid a ≡ gotSaid b → a ≡ b
@@ -37,18 +33,3 @@ count-injective (count.Refused k) (count.Is n) h = let w : _≡_ {A = ℕ} 0 1 =
 count-injective (count.Refused k) (count.Refused j) h =
     let q : k ≡ j = cc in
     ap count.Refused q
-
-pub spot-injective : (a b : Spot) → spotSaid a ≡ spotSaid b → a ≡ b
-spot-injective spot.Nothing spot.Nothing h = refl
-spot-injective spot.Nothing (spot.Number n) h = let w : _≡_ {A = ℕ} 0 1 = cc in absurd (omega arith)
-spot-injective spot.Nothing (spot.Refused k) h = let w : _≡_ {A = ℕ} 0 1 = cc in absurd (omega arith)
-spot-injective (spot.Number n) spot.Nothing h = let w : _≡_ {A = ℕ} 0 1 = cc in absurd (omega arith)
-spot-injective (spot.Number n) (spot.Number m) h =
-    let q : n ≡ m = cc in
-    ap spot.Number q
-spot-injective (spot.Number n) (spot.Refused k) h = let w : _≡_ {A = ℕ} 0 1 = cc in absurd (omega arith)
-spot-injective (spot.Refused k) spot.Nothing h = let w : _≡_ {A = ℕ} 0 1 = cc in absurd (omega arith)
-spot-injective (spot.Refused k) (spot.Number n) h = let w : _≡_ {A = ℕ} 0 1 = cc in absurd (omega arith)
-spot-injective (spot.Refused k) (spot.Refused j) h =
-    let q : k ≡ j = cc in
-    ap spot.Refused q

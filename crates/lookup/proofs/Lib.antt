@@ -1,4 +1,2 @@
 pub mod Laws
 pub mod Numbers
-pub mod Search
-pub mod Extended

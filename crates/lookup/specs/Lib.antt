@@ -1,4 +1,1 @@
 pub mod Numbers
-pub mod Find
-pub mod Remove
-pub mod Disk

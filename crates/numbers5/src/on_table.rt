@@ -1,17 +1,17 @@
 // Lookup and small changes of a table, and push. The table is read from X; its alignment, geometry, count and D are the
 // first six words of the line.
 use base::Answer;
+use bysector::Spot;
 use extract::Outcome;
 use lookup::Count;
 use lookup::Got;
-use lookup::Removal;
-use lookup::Spot;
 use lookup::TableAnswer;
 use push::Complete;
 use push::PushAnswer;
 use push::Pushed;
 use push::Size;
 use push::Updated;
+use remove::Removal;
 use table::LOGICALS;
 use table::LogicalPartition;
 use table::MBR;
@@ -144,9 +144,9 @@ fn answer(k: usize, l: &[u8], t: MBR) {
     match k {
         0 => got(lookup::get(t, line::size(l, 7))),
         1 => count(lookup::len(t)),
-        2 => spot(lookup::find_at_sector(t, line::n32(l, 7))),
-        3 => removed(lookup::remove(t, line::size(l, 7))),
-        4 => changed(lookup::remove_at_sector(t, line::n32(l, 7))),
+        2 => spot(bysector::find_at_sector(t, line::n32(l, 7))),
+        3 => removed(remove::remove(t, line::size(l, 7))),
+        4 => changed(removeat::remove_at_sector(t, line::n32(l, 7))),
         5 => complete(push::check_geometry(t)),
         6 => size(push::get_cylinder_size(t)),
         7 => update(l, t),
@@ -175,7 +175,7 @@ fn new_from(l: &[u8], x: &[u8]) {
         line::n8(l, 3),
         line::n8(l, 4),
     ];
-    let a = lookup::new_from(x, disk);
+    let a = newtable::new_from(x, disk);
     let answer = a.answer;
     match answer {
         Answer::Done => {
@@ -191,7 +191,7 @@ fn update_from(l: &[u8], x: &[u8]) {
     let n = line::size(l, 7);
     let r = read::read_from(lent::before(x, n));
     let t = given(l, r.table);
-    changed(lookup::update_from(t, lent::last(x, n)));
+    changed(newtable::update_from(t, lent::last(x, n)));
 }
 
 // Answers the line if its command is in the list.

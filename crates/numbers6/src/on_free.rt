@@ -62,12 +62,12 @@ fn size_of(s: Size) {
 
 fn answer(k: usize, l: &[u8], t: MBR) {
     match k {
-        0 => free_runs(free::find_free_sectors(t)),
-        1 => place_of(place::find_first_place(t, line::n32(l, 7))),
-        2 => place_of(place::find_last_place(t, line::n32(l, 7))),
-        3 => place_of(place::find_optimal_place(t, line::n32(l, 7))),
-        4 => size_of(place::get_maximum_partition_size(t)),
-        5 => size_of(place::get_maximum_partition_size_for(t, line::size(l, 7))),
+        0 => free_runs(freeruns::find_free_sectors(t)),
+        1 => place_of(places::find_first_place(t, line::n32(l, 7))),
+        2 => place_of(places::find_last_place(t, line::n32(l, 7))),
+        3 => place_of(places::find_optimal_place(t, line::n32(l, 7))),
+        4 => size_of(sizes::get_maximum_partition_size(t)),
+        5 => size_of(sizes::get_maximum_partition_size_for(t, line::size(l, 7))),
         6 => crate::on_lent::free_into(l, t),
         _ => crate::on_lent::update_lent(l, t),
     }

@@ -2,9 +2,9 @@
 use base::Answer;
 use free::RUNS;
 use free::Run;
+use lentruns::Listed;
 use push::Updated;
 use runs::Counted;
-use runs::Listed;
 use table::LOGICALS;
 use table::LogicalPartition;
 use table::MBR;
@@ -26,7 +26,7 @@ pub fn free_into(l: &[u8], t: MBR) {
         start: line::n32(l, 7),
         length: line::n32(l, 8),
     };
-    listed(runs::lent(t, mark));
+    listed(lentruns::lent(t, mark));
 }
 
 // The partition afterwards, after a refusal too.

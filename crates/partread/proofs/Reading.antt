@@ -1,17 +1,13 @@
--- The turns of reading a block. Assumes nothing.
+-- The turns of reading the slots of a block. Assumes nothing.
 use mathlib.Core.Path.{_≡_, refl, sym, ap, _∙_}
 use mathlib.Core.List.{List}
-use mathlib.Core.Bool.{Bool, true, false, _&&_, and-true}
-use Prim.Native.Nat.{ℕ, suc, _+_, _-_, _*_, _≤_, _<_}
+use Prim.Native.Nat.{ℕ, _+_, _<_}
 use native.Mathlib.Omega.{arith}
 use native.Mathlib.Numerals.{add-one}
-use lib.Dec.{leb}
-use lib.Bits.{bitOr, or-add-and, and-le-l, and-le-r, or-lt}
-use lib.ListN.{length, take, drop, set, getD}
-use lib.Seq.{take-suc-set, take-all, getD-take, getD-drop}
-use borrow.Author.Tests.{le-leb, lt-leb, leb-true, leb-false}
+use lib.ListN.{length, take, set}
+use lib.Seq.{take-suc-set, take-all}
 use Rattle.table.specs.declared.LogicalPartition.{LogicalPartition}
-use Rattle.block.specs.Block.{part, slotOf, slotAt, slotTagged, slotsIn, tagged}
+use Rattle.block.specs.Block.{slotOf, slotAt, slotsIn}
 
 -- a slot more
 pub slots-none : (b : List ℕ) (ls : List LogicalPartition) → take 0 ls ≡ slotsIn b 0
@@ -27,55 +23,3 @@ slots-more b s ls l i h e p q =
 
 pub slots-all : (b : List ℕ) (ls : List LogicalPartition) (i : ℕ) → length ls ≡ 24 → i ≡ 24 → take i ls ≡ slotsIn b i → ls ≡ slotsIn b 24
 slots-all b ls i l z e = sym (take-all i ls (omega arith)) ∙ e ∙ ap (slotsIn b) z
-
--- the tags of a slot, and of those behind it
-tags-step : (b : List ℕ) (i : ℕ) → i < 24 → tagged b i (24 - i) ≡ (slotTagged (slotAt b i) && tagged b (i + 1) (24 - (i + 1)))
-unfolding tagged
-tags-step b i h =
-    let z : 24 - i ≡ suc (24 - (i + 1)) = omega arith in
-    rw (z, add-one i) refl
-
-or-least : (x y : ℕ) → (x ≤ bitOr x y) × (y ≤ bitOr x y)
-or-least x y =
-    let e = or-add-and x y in
-    (omega (arith, e, and-le-r x y), omega (arith, e, and-le-l x y))
-
--- bytes laid over each other are at most 1 if each is
-or-small : (x y : ℕ) → leb (bitOr x y) 1 ≡ (leb x 1 && leb y 1)
-or-small x y = go (leb x 1) refl (leb y 1) refl
-  where
-    go : (p : Bool) → leb x 1 ≡ p → (q : Bool) → leb y 1 ≡ q → leb (bitOr x y) 1 ≡ (p && q)
-    go true e true f =
-        let g : x < 2 = omega (arith, leb-true x 1 e) in
-        let h : y < 2 = omega (arith, leb-true y 1 f) in
-        let k : bitOr x y < 2 = or-lt 1 x y g h in
-        le-leb (bitOr x y) 1 (omega (arith, k))
-    go true e false f = lt-leb (bitOr x y) 1 (omega (arith, leb-false y 1 f, or-least x y .1))
-    go false e q f = lt-leb (bitOr x y) 1 (omega (arith, leb-false x 1 e, or-least x y .0))
-
--- a byte of a slot stands in the block
-slot-byte : (b : List ℕ) (i k : ℕ) → k < 482 → getD (slotAt b i) k 0 ≡ getD b (540 + 482 * i + k) 0
-unfolding part
-slot-byte b i k h = getD-take 482 (drop (540 + 482 * i) b) k 0 h ∙ getD-drop (540 + 482 * i) b k 0
-
-mix : (p q u v r : Bool) → (p && q && (u && v && r)) ≡ (p && u && (q && v) && r)
-mix false q u v r = refl
-mix true false false v r = refl
-mix true false true v r = refl
-mix true true u v r = refl
-
-pub tags-more : (b : List ℕ) (i x y : ℕ) → i < 24 → tagged b 0 24 ≡ (leb x 1 && leb y 1 && tagged b i (24 - i))
-    → tagged b 0 24 ≡ (leb (bitOr x (getD b (562 + 482 * i) 0)) 1 && leb (bitOr y (getD b (571 + 482 * i) 0)) 1 && tagged b (i + 1) (24 - (i + 1)))
-tags-more b i x y h e =
-    let u : 562 + 482 * i ≡ 540 + 482 * i + 22 = omega arith in
-    let v : 571 + 482 * i ≡ 540 + 482 * i + 31 = omega arith in
-    let s : slotTagged (slotAt b i) ≡ (leb (getD b (562 + 482 * i) 0) 1 && leb (getD b (571 + 482 * i) 0) 1) =
-    rw (slot-byte b i 22 (omega arith), slot-byte b i 31 (omega arith), u, v) in
-    e ∙ rw (tags-step b i h, s, or-small x (getD b (562 + 482 * i) 0), or-small y (getD b (571 + 482 * i) 0))
-    (mix (leb x 1) (leb y 1) (leb (getD b (562 + 482 * i) 0) 1) (leb (getD b (571 + 482 * i) 0) 1) (tagged b (i + 1) (24 - (i + 1))))
-
-pub tags-end : (b : List ℕ) (i x y : ℕ) → 24 ≤ i → tagged b 0 24 ≡ (leb x 1 && leb y 1 && tagged b i (24 - i)) → tagged b 0 24 ≡ (leb x 1 && leb y 1)
-unfolding tagged
-tags-end b i x y h e =
-    let z : 24 - i ≡ 0 = omega arith in
-    e ∙ ap (λ (k : ℕ). leb x 1 && leb y 1 && tagged b i k) z ∙ and-true (leb x 1 && leb y 1)

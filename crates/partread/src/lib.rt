@@ -4,9 +4,8 @@ use table::LOGICALS;
 use table::LogicalPartition;
 use table::MBR;
 ghost use mathlib.Core.Path.{_≡_};
-ghost use Prim.Native.Nat.{_+_};
 ghost use lib.ListN.{length};
-ghost use Rattle.block.specs.Block.{headerIn, slotsIn, tagged, tableIn};
+ghost use Rattle.block.specs.Block.{headerIn, slotsIn, tableIn};
 
 // Every slot, the unused ones too.
 fn get_slots(b: &[u8]) -> [LogicalPartition; LOGICALS]
@@ -22,29 +21,12 @@ fn get_slots(b: &[u8]) -> [LogicalPartition; LOGICALS]
     ls
 }
 
-// Are all tags 0 or 1? The first tags are laid over each other, and so are the second ones.
-pub fn all_tagged(b: &[u8]) -> bool
-    requires { ⌜ length (now b) ≡ 12108 ⌝ }
-    ensures { λ r. ⌜ r ≡ tagged (now (b .entry)) 0 24 ⌝ }
-{
-    let mut one: u8 = 0;
-    let mut two: u8 = 0;
-    for i in 0..LOGICALS {
-        one = one | b[562 + 482 * i];
-        two = two | b[571 + 482 * i];
-    }
-    if 1 < one {
-        return false;
-    }
-    two <= 1
-}
-
 // The header in its 520 bytes.
 pub fn get_header(s: &[u8]) -> MBRHeader
     requires { ⌜ length (now s) ≡ 520 ⌝ }
     ensures { λ r. ⌜ r ≡ headerIn (now (s .entry)) ⌝ }
 {
-    let code = mbrread::code_of(s);
+    let code = mbrparts::code_of(s);
     let one = slotread::get_entry(s, 446);
     let two = slotread::get_entry(s, 464);
     let three = slotread::get_entry(s, 482);

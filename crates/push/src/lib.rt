@@ -1,9 +1,9 @@
-// One more logical partition; and, of `address` and `request`, the addresses of one and what a push asks for.
+// One more logical partition; and, of `address`, `addresses` and `request`, the addresses of one and what a push asks for.
 pub use address::Geometry;
 pub use address::Updated;
 pub use address::is_complete;
-pub use address::update_chs;
-pub use address::with_geometry;
+pub use addresses::update_chs;
+pub use addresses::with_geometry;
 use base::Answer;
 use chs::CHS;
 use ebr::Kept;
@@ -126,7 +126,7 @@ fn fresh_logical(q: Request, p: Place, n: usize) -> LogicalPartition
 fn refused(k: u8) -> Updated
     ensures { λ r. ⌜ refusal (r .answer) ≡ some k ⌝ }
 {
-    address::as_given(LogicalPartition::empty(), k)
+    addresses::as_given(LogicalPartition::empty(), k)
 }
 
 // The new partition behind n others at a place that serves: addresses, then 6.
@@ -137,7 +137,7 @@ fn placed_logical(q: Request, p: Place, n: usize) -> Updated
 {
     let l = fresh_logical(q, p, n);
     let g = q.geometry;
-    let u = address::with_geometry(g, l);
+    let u = addresses::with_geometry(g, l);
     let a = u.answer;
     match a {
         Answer::Refused(k) => refused(k),

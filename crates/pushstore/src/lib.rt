@@ -1,85 +1,20 @@
-// The stores of a careful push, and what careful removal shares with it.
+// The refusals of a careful push that its place decides, else its stores.
 use entry::MBRPartitionEntry;
-use table::DiskLba;
+use pushwrite::Changed;
 use table::LogicalPartition;
-use table::MaybeChs;
-use table::MaybeSectors;
 ghost use mathlib.Core.Path.{_≡_};
-ghost use mathlib.Core.Option.{none};
-ghost use Prim.Native.Nat.{_+_, _≤_};
 ghost use lib.ListN.{length};
-ghost use Rattle.base.specs.Put.{put};
-ghost use Rattle.base.specs.Said.{gives};
 ghost use Rattle.entry.specs.Entry.{endOf};
-ghost use Rattle.careful.specs.Stores.{moved};
-ghost use Rattle.careful.specs.Output.{storeBytes, storesBytes};
-ghost use Rattle.pushstore.specs.Behind.{changedSaid, Tells, linked, spaceBehind, storesBehind};
+ghost use Rattle.pushwrite.specs.Behind.{Tells, storesBehind};
+ghost use Rattle.pushstore.specs.Space.{spaceBehind};
 
 // The bytes that two stores take.
 pub const ROOM: usize = 1032;
-
-// The number of stores, or a refusal's number.
-pub enum Changed {
-    Stores(usize),
-    Refused(u8),
-}
-
-// The EBR of a logical partition with a link, as a store from index `at` on.
-pub fn put_ebr(out: &mut [u8], at: usize, l: LogicalPartition, link: MBRPartitionEntry)
-    requires { ⌜ at + 516 ≤ length (now out) ⌝ }
-    ensures { λ _. ⌜ (now (out .exit) ≡ put (now (out .entry)) at (storeBytes (linked l link))) × (length (storeBytes (linked l link)) ≡ 516) ⌝ }
-{
-    let h = links::ebr_with(l, link);
-    let place = l.absolute_ebr_lba;
-    base::put32(out, at, place.0);
-    ebrwrite::write_at(out, at + 4, h);
-}
-
-// The logical partition in the first place.
-pub fn move_first(e: MBRPartitionEntry, l: LogicalPartition) -> LogicalPartition
-    ensures { λ r. ⌜ r ≡ moved e l ⌝ }
-{
-    let partition = l.partition;
-    let first = e.first_chs;
-    let kept = l.kept;
-    LogicalPartition {
-        partition: partition,
-        absolute_ebr_lba: DiskLba(e.starting_lba),
-        ebr_sectors: MaybeSectors::Absent,
-        ebr_first_chs: first,
-        ebr_last_chs: MaybeChs::Absent,
-        kept: kept,
-    }
-}
 
 fn end_of(e: MBRPartitionEntry) -> u64
     ensures { λ r. ⌜ r ≡ endOf e ⌝ }
 {
     e.starting_lba as u64 + e.sectors as u64
-}
-
-// The stores of a new partition behind n others: the new EBR, then the former last.
-fn put_push(
-    out: &mut [u8],
-    e: MBRPartitionEntry,
-    n: usize,
-    last: LogicalPartition,
-    new: LogicalPartition,
-) -> Changed
-    requires { ⌜ 1032 ≤ length (now out) ⌝ }
-    ensures { λ r. ⌜ changedSaid r ≡ gives (length (storesBehind e n last new)) ⌝ }
-    ensures { λ r. ⌜ now (out .exit) ≡ put (now (out .entry)) 0 (storesBytes (storesBehind e n last new)) ⌝ }
-{
-    let none = MBRPartitionEntry::empty();
-    if n == 0 {
-        let first = move_first(e, new);
-        put_ebr(out, 0, first, none);
-        return Changed::Stores(1);
-    }
-    let link = links::link_to(e, new);
-    put_ebr(out, 0, new, none);
-    put_ebr(out, 516, last, link);
-    Changed::Stores(2)
 }
 
 // 12, 21, 19 of a new partition behind n others, else its stores.
@@ -108,5 +43,5 @@ pub fn push_new(
     if out.len() < ROOM {
         return Changed::Refused(19);
     }
-    put_push(out, e, n, last, new)
+    pushwrite::put_push(out, e, n, last, new)
 }

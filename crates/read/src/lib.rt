@@ -137,7 +137,7 @@ fn chain_of(x: &[u8], n: usize, d: u32, extended: Found, ebrs: &mut [usize]) -> 
             answer: Outcome::Done,
             count: 0,
         },
-        Found::Entry(e) => chain::read_chain(x, n, d, e, ebrs),
+        Found::Entry(e) => chainread::read_chain(x, n, d, e, ebrs),
     }
 }
 

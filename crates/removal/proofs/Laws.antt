@@ -1,21 +1,17 @@
--- What a careful removal answers: refusals in their order, else its store. Assumes nothing.
+-- From refusals and store to what a careful removal says. Assumes nothing.
 use mathlib.Core.Path.{_≡_, sym, subst}
-use mathlib.Core.Bool.{true, false}
 use mathlib.Core.Option.{none, some}
 use mathlib.Core.List.{List}
-use Prim.Native.Nat.{ℕ, _-_, _≤_, _<_}
-use lib.ListN.{length}
-use borrow.Author.Tests.{lt-ltb, le-ltb, le-leb, lt-leb}
+use Prim.Native.Nat.{ℕ}
 use Rattle.base.specs.Said.{refuses, failure}
-use Rattle.base.specs.Checks.{first-fail}
 use Rattle.extract.specs.Answers.{checkSays}
 use Rattle.table.specs.declared.MBR.{MBR}
 use Rattle.read.specs.Read.{readSays, tableFor}
-use Rattle.sound.specs.Sound.{Contents, contentsOf, soundb}
+use Rattle.sound.specs.Sound.{contentsOf}
 use Rattle.careful.specs.Careful.{removeRefusals, removeChange, carefulRemove, carefulRemoveSays}
 use Rattle.careful.specs.Output.{outAfter, counted}
-use Rattle.pushstore.specs.declared.Changed.{Changed}
-use Rattle.change.specs.Change.{changedSaid, Tells}
+use Rattle.pushwrite.specs.declared.Changed.{Changed}
+use Rattle.pushwrite.specs.Behind.{changedSaid, Tells}
 use Rattle.change.proofs.Laws.{onRead, read-refused, read-told, on-extract}
 
 -- from the refusals and the store to what a careful removal says
@@ -35,25 +31,3 @@ module _ (x : List ℕ) (room : ℕ) where
       rw (← remove-says n)
       (read-told (removeRefusals room n) (removeChange n) (readSays x) r old new h
       (subst (λ (m : MBR). Tells r old new (removeRefusals room n (contentsOf m)) (removeChange n (contentsOf m) .stores)) e w))
-
--- 20, 17, 19 of a careful removal
-module _ (room n : ℕ) (t : Contents) where
-  pub remove-20 : soundb t ≡ false → first-fail (removeRefusals room n t) ≡ some 20
-  unfolding removeRefusals
-  remove-20 h = rw h
-
-  pub remove-low : soundb t ≡ true → n < 5 → first-fail (removeRefusals room n t) ≡ some 17
-  unfolding removeRefusals
-  remove-low h k = rw (h, lt-leb 5 n k)
-
-  pub remove-absent : soundb t ≡ true → 5 ≤ n → length (t .logicals) ≤ n - 5 → first-fail (removeRefusals room n t) ≡ some 17
-  unfolding removeRefusals
-  remove-absent h k l = rw (h, le-leb 5 n k, le-ltb (n - 5) (length (t .logicals)) l)
-
-  pub remove-19 : soundb t ≡ true → 5 ≤ n → n - 5 < length (t .logicals) → room < 1032 → first-fail (removeRefusals room n t) ≡ some 19
-  unfolding removeRefusals
-  remove-19 h k l m = rw (h, le-leb 5 n k, lt-ltb (n - 5) (length (t .logicals)) l, lt-leb 1032 room m)
-
-  pub remove-holds : soundb t ≡ true → 5 ≤ n → n - 5 < length (t .logicals) → 1032 ≤ room → first-fail (removeRefusals room n t) ≡ none
-  unfolding removeRefusals
-  remove-holds h k l m = rw (h, le-leb 5 n k, lt-ltb (n - 5) (length (t .logicals)) l, le-leb 1032 room m)

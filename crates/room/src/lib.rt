@@ -50,7 +50,7 @@ fn primary_points(b: &[u8]) -> Points
     let two = inside::primary(b, 1);
     let three = inside::primary(b, 2);
     let four = inside::primary(b, 3);
-    free::primary_points(one, two, three, four, base::get32(b, 4))
+    freeruns::primary_points(one, two, three, four, base::get32(b, 4))
 }
 
 // Free runs of the table in a block, as the crate finds them.
@@ -64,5 +64,5 @@ pub fn free_of(b: &[u8]) -> FreeAnswer
     }
     let found = inside::extended(b);
     let q = logical_points(b, free::begin_of(found));
-    free::free_in(align, primary_points(b), found, q)
+    freeruns::free_in(align, primary_points(b), found, q)
 }

@@ -23,9 +23,9 @@ use Rattle.chain.specs.Facts.{at}
 use Rattle.address.specs.declared.Geometry.{Geometry}
 use Rattle.push.specs.Address.{complete}
 use Rattle.push.specs.Push.{geometryOf}
-use Rattle.settle.specs.Settle.{atStart, firstAt, allGeometry, settled, settleChecks, allRows}
-use Rattle.write.specs.Write.{tableStores, extractOver, roomChecks, chainChecks, diskChecks, chainOn, diskOn, headerOn, writeChecks}
-use Rattle.write.specs.Answers.{writeSays}
+use Rattle.settled.specs.Settle.{atStart, firstAt, allGeometry, settled, settleChecks, allRows}
+use Rattle.writing.specs.Write.{tableStores, extractOver, roomChecks, chainChecks, diskChecks, chainOn, diskOn, headerOn, writeChecks}
+use Rattle.writing.specs.Answers.{writeSays}
 use Rattle.sound.specs.Is.{All, later}
 use Rattle.sound.specs.Sound.{contentsOf, FirstAt}
 use Rattle.sound.proofs.Good.{Good, Area, area-of, sound-first, sound-row}

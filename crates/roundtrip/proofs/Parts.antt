@@ -27,8 +27,8 @@ use Rattle.align.specs.Align.{usedStarts, largest, alignment}
 use Rattle.plan.specs.Plan.{Each}
 use Rattle.address.specs.declared.Geometry.{Geometry}
 use Rattle.push.specs.Address.{complete}
-use Rattle.settle.specs.Settle.{byGeometry, linkThere, linked, rowChecks, allRows}
-use Rattle.write.proofs.Ranges.{InByte, HeaderIn, ChsIn, LogicalIn, TableIn}
+use Rattle.settled.specs.Settle.{byGeometry, linkThere, linked, rowChecks, allRows}
+use Rattle.writing.proofs.Ranges.{InByte, HeaderIn, ChsIn, LogicalIn, TableIn}
 use Rattle.sound.specs.Is.{All}
 use Rattle.sound.specs.Sound.{Contents, contentsOf, Within, IfThere, EntryChs, LogicalChs, Used, Sound}
 use Rattle.sound.proofs.Test.{is-flag}

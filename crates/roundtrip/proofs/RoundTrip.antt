@@ -12,12 +12,12 @@ use Rattle.extract.specs.Answers.{headerOf, checkSays}
 use Rattle.table.specs.declared.MBR.{MBR}
 use Rattle.read.specs.Read.{Table, headerOn, read, readSays, tableOf}
 use Rattle.read.proofs.Facts.{read→reads}
-use Rattle.lookup.specs.Remove.{removedTable}
+use Rattle.remove.specs.Remove.{removedTable}
 use Rattle.careful.specs.Demand3.{contentsOn}
 use Rattle.careful.proofs.Call.{good-read}
-use Rattle.write.specs.Write.{tableStores, extractOver, writeChecks}
-use Rattle.write.specs.Answers.{writeSays, writeLeaves}
-use Rattle.write.proofs.Ranges.{TableIn, written-good, written-disk}
+use Rattle.writing.specs.Write.{tableStores, extractOver, writeChecks}
+use Rattle.writing.specs.Answers.{writeSays, writeLeaves}
+use Rattle.writing.proofs.Ranges.{TableIn, written-good, written-disk}
 use Rattle.roundtrip.specs.RoundTrip.{contentsIn, RoundTrip, OldStays, ReadBack}
 use Rattle.roundtrip.proofs.Parts.{table-in}
 use Rattle.roundtrip.proofs.Shown.{disk-returns}

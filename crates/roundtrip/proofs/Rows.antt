@@ -12,7 +12,7 @@ use Rattle.table.specs.declared.LogicalPartition.{LogicalPartition}
 use Rattle.chain.specs.Facts.{viewed, seen, at, bodyOf, leads, Held}
 use Rattle.chain.proofs.View.{view-same}
 use Rattle.links.specs.Links.{write}
-use Rattle.write.specs.Write.{ebrStores}
+use Rattle.writing.specs.Write.{ebrStores}
 use Rattle.sound.specs.Is.{All}
 use Rattle.sound.proofs.Good.{Good}
 use Rattle.careful.proofs.Places.{Fit, good-fit, fit-of, Off, Under, off-over, row-under}

@@ -27,10 +27,10 @@ use Rattle.chain.specs.Facts.{seen, bodyOf, Held, Holds}
 use Rattle.read.proofs.Facts.{facts→header}
 use Rattle.push.specs.Push.{geometryOf}
 use Rattle.links.specs.Links.{ebrFor, write}
-use Rattle.settle.specs.Settle.{atStart, firstAt, allGeometry, settled, settleChecks, allRows}
-use Rattle.write.specs.Write.{headerStore, ebrStores, chainStores, chainChecks, tableStores, writeChecks}
-use Rattle.write.specs.Answers.{writeSays}
-use Rattle.write.proofs.Over.{all-held, disk-held, chain-held}
+use Rattle.settled.specs.Settle.{atStart, firstAt, allGeometry, settled, settleChecks, allRows}
+use Rattle.writing.specs.Write.{headerStore, ebrStores, chainStores, chainChecks, tableStores, writeChecks}
+use Rattle.writing.specs.Answers.{writeSays}
+use Rattle.writing.proofs.Over.{all-held, disk-held, chain-held}
 use Rattle.sound.specs.Is.{All}
 use Rattle.sound.specs.Sound.{Contents, contentsOf, primariesOf, LogicalChs, FirstAt, Owned}
 use Rattle.sound.proofs.Good.{Good, Area, area-of, extended-small, sound-first, sound-row}

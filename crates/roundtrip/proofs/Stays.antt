@@ -25,13 +25,13 @@ use Rattle.table.specs.declared.MBR.{MBR}
 use Rattle.table.specs.Table.{logicals, extendedIn}
 use Rattle.read.specs.Read.{Table, headerOn, tableOf}
 use Rattle.read.proofs.Facts.{header→facts}
-use Rattle.lookup.specs.Remove.{removedTable}
+use Rattle.remove.specs.Remove.{removedTable}
 use Rattle.plan.specs.Plan.{Each}
 use Rattle.address.specs.declared.Geometry.{Geometry}
 use Rattle.push.specs.Push.{geometryOf}
-use Rattle.settle.specs.Settle.{firstAt, settled}
-use Rattle.write.specs.Write.{headerStore, ebrStores, chainStores, tableStores}
-use Rattle.write.proofs.Ranges.{HeaderIn, LogicalIn, TableIn}
+use Rattle.settled.specs.Settle.{firstAt, settled}
+use Rattle.writing.specs.Write.{headerStore, ebrStores, chainStores, tableStores}
+use Rattle.writing.proofs.Ranges.{HeaderIn, LogicalIn, TableIn}
 use Rattle.roundtrip.proofs.Parts.{header-in}
 
 -- a header that is read: its record is what is written of it, and its numbers fit

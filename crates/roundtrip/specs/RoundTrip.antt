@@ -19,15 +19,15 @@ use Rattle.table.specs.declared.LogicalPartition.{LogicalPartition}
 use Rattle.table.specs.declared.MBR.{MBR}
 use Rattle.table.specs.Table.{most, logicals, extendedIn}
 use Rattle.read.specs.Read.{Table, readSays, tableOf}
-use Rattle.lookup.specs.Remove.{removedTable}
+use Rattle.remove.specs.Remove.{removedTable}
 use Rattle.push.specs.Address.{complete}
 use Rattle.push.specs.Push.{geometryOf}
-use Rattle.settle.specs.Settle.{linkThere}
+use Rattle.settled.specs.Settle.{linkThere}
 use Rattle.sound.specs.Is.{All, later}
 use Rattle.sound.specs.Sound.{Contents, contentsOf, Sound}
 use Rattle.careful.specs.Careful.{contents, inFirstPlace}
-use Rattle.write.specs.Write.{tableStores, extractOver, roomChecks}
-use Rattle.write.specs.Answers.{writeSays, writeLeaves}
+use Rattle.writing.specs.Write.{tableStores, extractOver, roomChecks}
+use Rattle.writing.specs.Answers.{writeSays, writeLeaves}
 
 -- numbers that fit their types, as those of every table do that a program holds: of an entry
 pub record EntryFits (e : MBRPartitionEntry) : Type 0 where

@@ -5,10 +5,10 @@ use free::Run;
 use table::MBR;
 ghost use mathlib.Core.Path.{_≡_};
 ghost use Prim.Native.Nat.{_<_};
-ghost use lib.ListN.{length, getD, replicate};
+ghost use lib.ListN.{getD};
 ghost use Rattle.base.specs.Said.{refuses};
 ghost use Rattle.free.specs.Free.{run, mostRuns};
-ghost use Rattle.runs.specs.Runs.{freeCount, freeList, counted, Planned};
+ghost use Rattle.runs.specs.Runs.{counted, Planned};
 
 // The number of runs found, or a refusal's number.
 pub enum Counted {
@@ -35,10 +35,10 @@ fn refused(k: u8, runs: [Run; RUNS]) -> Plan
 }
 
 // The plan for a lent list of n runs: the search's refusals, then 19.
-fn planned(t: MBR, n: usize) -> Plan
+pub fn planned(t: MBR, n: usize) -> Plan
     ensures { λ r. ⌜ Planned t n r ⌝ }
 {
-    let f = free::find_free_sectors(t);
+    let f = freeruns::find_free_sectors(t);
     let a = f.answer;
     let all = f.runs;
     let count = all.count;
@@ -58,41 +58,9 @@ fn planned(t: MBR, n: usize) -> Plan
     }
 }
 
-fn run_of(p: Plan, i: usize) -> Run
+pub fn run_of(p: Plan, i: usize) -> Run
     requires { ⌜ i < mostRuns ⌝ }
     ensures { λ r. ⌜ r ≡ getD (p .runs) i (run 0 0) ⌝ }
 {
     p.runs[i]
-}
-
-// Free runs of a table, as the crate finds them, into the lent list: the runs found stand first, the rest is as it was.
-pub fn free_into(t: MBR, runs: &mut [Run]) -> Counted
-    ensures { λ r. ⌜ (counted r ≡ freeCount t (length (now (runs .entry)))) × (now (runs .exit) ≡ freeList t (now (runs .entry))) ⌝ }
-{
-    let p = planned(t, runs.len());
-    let stores = p.stores;
-    let mut i = 0;
-    while i < stores {
-        runs[i] = run_of(p, i);
-        i += 1;
-    }
-    p.answer
-}
-
-// The answer, and a list of thirty afterwards.
-pub struct Listed {
-    pub answer: Counted,
-    pub runs: [Run; RUNS],
-}
-
-// The same with a list of thirty equal runs that this function makes and lends, so that its callers need no walk.
-pub fn lent(t: MBR, mark: Run) -> Listed
-    ensures { λ r. ⌜ (counted (r .answer) ≡ freeCount t mostRuns) × (r .runs ≡ freeList t (replicate mostRuns mark)) ⌝ }
-{
-    let mut list = [mark; RUNS];
-    let a = free_into(t, &mut list);
-    Listed {
-        answer: a,
-        runs: list,
-    }
 }

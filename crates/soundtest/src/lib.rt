@@ -1,20 +1,12 @@
 // The test for a sound table.
-use mbr::Found;
-use mbr::MBRHeader;
 use table::LOGICALS;
 use table::MBR;
 ghost use mathlib.Core.Path.{_≡_};
-ghost use mathlib.Core.Bool.{true};
 ghost use mathlib.Core.List.{[], _∷_};
-ghost use Prim.Native.Nat.{_≤_};
 ghost use lib.Dec.{leb};
-ghost use Rattle.base.specs.Bytes.{standsAt};
 ghost use Rattle.base.specs.Checks.{_!_, answer};
-ghost use Rattle.mbr.specs.Mbr.{primaries, extendedOf, signature};
-ghost use Rattle.table.specs.Table.{most, logicals};
-ghost use Rattle.sound.specs.Is.{allb, pairsb};
+ghost use Rattle.table.specs.Table.{most};
 ghost use Rattle.sound.specs.Sound.{contentsOf, soundb};
-ghost use Rattle.sound.specs.Walk.{primaryb, pairb, rowsb, chainb};
 ghost use Rattle.soundtest.specs.Said.{soundSaid};
 
 // Sound or not, or a refusal's number.
@@ -22,106 +14,6 @@ pub enum Soundness {
     Sound,
     Unsound,
     Refused(u8),
-}
-
-fn good_primaries(h: MBRHeader, disk: u32) -> bool
-    ensures { λ r. ⌜ r ≡ allb (primaryb disk) (primaries h) ⌝ }
-{
-    let one = h.partition_1;
-    if !rules::good_primary(one, disk) {
-        return false;
-    }
-    let two = h.partition_2;
-    if !rules::good_primary(two, disk) {
-        return false;
-    }
-    let three = h.partition_3;
-    if !rules::good_primary(three, disk) {
-        return false;
-    }
-    let four = h.partition_4;
-    rules::good_primary(four, disk)
-}
-
-fn good_pairs(h: MBRHeader) -> bool
-    ensures { λ r. ⌜ r ≡ pairsb pairb (primaries h) ⌝ }
-{
-    let one = h.partition_1;
-    let two = h.partition_2;
-    let three = h.partition_3;
-    let four = h.partition_4;
-    if !rules::good_pair(one, two) {
-        return false;
-    }
-    if !rules::good_pair(one, three) {
-        return false;
-    }
-    if !rules::good_pair(one, four) {
-        return false;
-    }
-    if !rules::good_pair(two, three) {
-        return false;
-    }
-    if !rules::good_pair(two, four) {
-        return false;
-    }
-    rules::good_pair(three, four)
-}
-
-// One logical partition after the other: each ends by the next EBR, so that EBRs ascend, and the last by the extended end.
-fn good_rows(t: MBR, from: u32, hi: u64) -> bool
-    requires { ⌜ t .count ≤ 24 ⌝ }
-    ensures { λ r. ⌜ r ≡ rowsb hi true from (logicals t) ⌝ }
-{
-    let n = t.count;
-    let mut end = from as u64;
-    for i in 0..n {
-        let l = t.logical_partitions[i];
-        if !rules::stands(l, i == 0, end, hi) {
-            return false;
-        }
-        let e = l.partition;
-        end = turns::end_of(e);
-    }
-    end <= hi
-}
-
-// No logical partitions without an extended entry.
-fn good_chain(t: MBR) -> bool
-    requires { ⌜ t .count ≤ 24 ⌝ }
-    ensures { λ r. ⌜ r ≡ chainb (extendedOf (primaries (t .header))) (logicals t) ⌝ }
-{
-    let header = t.header;
-    let found = header.get_extended_partition();
-    match found {
-        Found::Nothing => t.count == 0,
-        Found::Entry(e) => good_rows(t, e.starting_lba, turns::end_of(e)),
-    }
-}
-
-fn is_signed(h: MBRHeader) -> bool
-    ensures { λ r. ⌜ r ≡ standsAt (h .«boot_signature») 0 signature ⌝ }
-{
-    let sign = h.boot_signature;
-    base::stands_at(&sign, 0, b"\x55\xAA")
-}
-
-// The test on a table whose count is 24 at most: for the crates above.
-pub fn is_sound(t: MBR) -> bool
-    requires { ⌜ t .count ≤ 24 ⌝ }
-    ensures { λ r. ⌜ r ≡ soundb (contentsOf t) ⌝ }
-{
-    let header = t.header;
-    if !is_signed(header) {
-        return false;
-    }
-    if !good_primaries(header, t.disk_size) {
-        return false;
-    }
-    if !good_pairs(header) {
-        return false;
-    }
-    good_chain(t)
 }
 
 // The test on any table: 6.
@@ -132,7 +24,7 @@ pub fn sound(t: MBR) -> Soundness
     if LOGICALS < n {
         return Soundness::Refused(6);
     }
-    if is_sound(t) {
+    if issound::is_sound(t) {
         return Soundness::Sound;
     }
     Soundness::Unsound

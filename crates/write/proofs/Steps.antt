@@ -1,90 +1,35 @@
 -- The steps of writing, as the code takes them. Assumes nothing.
-use mathlib.Core.Path.{_≡_, refl, sym, ap, subst, _∙_}
+use mathlib.Core.Path.{_≡_, sym, ap, subst, _∙_}
 use mathlib.Core.List.{List, [], _∷_, _++_}
 use mathlib.Core.Option.{Option, none, some}
-use Prim.Native.Nat.{ℕ, suc, _+_, _*_, _≤_, _<_}
-use native.Mathlib.Numerals.{add-one}
+use Prim.Native.Nat.{ℕ, _≤_, _<_}
 use native.Mathlib.Omega.{arith}
-use lib.ListN.{length, getD, take, drop, set}
-use lib.Seq.{length-take-le, drop-cons, take-suc, set-at, append-snoc}
-use borrow.Author.Tests.{lt-ltb, le-ltb, lt-leb, le-leb}
+use lib.ListN.{length}
+use borrow.Author.Tests.{lt-ltb, le-ltb}
 use Rattle.base.specs.Put.{put}
-use Rattle.base.specs.Said.{Said, gives, refuses}
-use Rattle.base.specs.Checks.{Check, AllHold, first-fail}
-use Rattle.base.proofs.Checks.{all-hold}
+use Rattle.base.specs.Said.{gives, refuses}
+use Rattle.base.specs.Checks.{Check, first-fail}
 use Rattle.entry.specs.declared.MBRPartitionEntry.{MBRPartitionEntry}
 use Rattle.mbr.specs.declared.MBRHeader.{MBRHeader}
 use Rattle.mbr.specs.Mbr.{mbrBytes}
-use Rattle.extract.specs.Extract.{sectorSize, diskSectors, records, extractChecks, Good}
+use Rattle.extract.specs.Extract.{diskSectors, Good}
 use Rattle.extract.specs.Answers.{headerOf}
 use Rattle.extract.specs.Disk.{Store}
 use Rattle.extract.specs.declared.Extract.{Extract}
-use Rattle.layover.specs.Layover.{headerBytes, newExtract}
+use Rattle.layover.specs.Layover.{newExtract}
 use Rattle.layover.specs.Layover as layover
 use Rattle.layover.specs.Answers.{laidSaid, laySays, layLeaves}
 use Rattle.layover.specs.declared.Laid.{Laid}
 use Rattle.layover.proofs.Rules.{lay-on}
-use Rattle.extractwrite.proofs.Written.{three}
-use Rattle.layover.proofs.Parts.{length-header}
-use Rattle.plan.specs.declared.Slot.{Slot}
-use Rattle.plan.specs.Plan.{pieces, lbaOf, Each}
-use Rattle.plan.proofs.Laws.{length-pieces, lbas-wide}
-use Rattle.table.specs.declared.LogicalPartition.{LogicalPartition}
 use Rattle.table.specs.declared.MBR.{MBR}
-use Rattle.table.specs.Table.{noLogical, logicals, extendedIn}
+use Rattle.table.specs.Table.{logicals, extendedIn}
 use Rattle.push.specs.Push.{geometryOf}
-use Rattle.settle.specs.Settle.{settleChecks, settledIn}
-use Rattle.settle.proofs.Laws.{settle-none}
-use Rattle.write.specs.declared.Written.{Written}
-use Rattle.write.specs.Write.{headerStore, chainStores, tableStores, roomChecks, chainChecks, diskChecks, chainOn, headerOn, writeChecks, leftBy, chainGeometry}
-use Rattle.records.specs.Records.{ebrStores, laidAll, extractOver}
-use Rattle.write.specs.Answers.{writeSays, writeTable, writeLeaves, Put, Lays, tableBy, Fine}
-use Rattle.records.specs.Sources.{bytesFrom, storesOf, slotsOf, CodeLong, Writing}
-use Rattle.records.proofs.Laws.{extract-parts, extract-count, extract-long}
-use Rattle.write.proofs.Told.{table-checked, put-fails, put-skip}
-use Rattle.write.proofs.Over.{chain-held}
-
--- room for the new extract
-module _ (x : List ℕ) (n m : ℕ) (first : List ℕ) (ls : List LogicalPartition) (e : MBRPartitionEntry) (w : Writing x n m first) (c : Each CodeLong ls) (l : List Slot) (p : l ≡ slotsOf x ls) (k : ℕ) (q : length l ≡ k) (out : List ℕ) where
-  abbrev ss : List Store
-  ss = storesOf first e ls
-
-  many : length (laidAll ss (records x)) ≡ k
-  many = extract-count x n m first ls e w c ∙ ap length (sym p) ∙ q
-
-  size : length (extractOver x ss) ≡ 24 + k * 516
-  size = extract-long x n m first ls e w c ∙ ap (λ j. 24 + j * 516) (ap length (sym p) ∙ q)
-
-  pub room-many : 64 < k → (r : Laid) → laidSaid r ≡ refuses 22 → Put r out out (roomChecks x ss (length out)) (extractOver x ss)
-  unfolding roomChecks
-  room-many h r s = record { says = s ∙ rw (many, lt-leb k 64 h); leaves = rw (many, lt-leb k 64 h) }
-
-  pub room-short : k ≤ 64 → length out < 24 + k * 516 → (r : Laid) → laidSaid r ≡ refuses 19 → Put r out out (roomChecks x ss (length out)) (extractOver x ss)
-  unfolding roomChecks
-  room-short h o r s = record { says = s ∙ rw (many, le-leb k 64 h, size, lt-leb (24 + k * 516) (length out) o); leaves = rw (many, le-leb k 64 h, size, lt-leb (24 + k * 516) (length out) o) }
-
-  pub room-fine : k ≤ 64 → 24 + k * 516 ≤ length out → (d₁ d₂ d₃ : List ℕ) (z d : ℕ) → z ≡ sectorSize x → d ≡ diskSectors x
-      → d₁ ≡ put out 0 (headerBytes z d k) → d₂ ≡ put d₁ 24 (pieces lbaOf l) → d₃ ≡ put d₂ (24 + k * 4) (pieces (λ s. bytesFrom x ss (s .source)) l)
-      → (r : Laid) → laidSaid r ≡ gives (24 + k * 516) → Put r out d₃ (roomChecks x ss (length out)) (extractOver x ss)
-  unfolding roomChecks
-  room-fine h o d₁ d₂ d₃ z d ez ed e₁ e₂ e₃ r s =
-      let a = headerBytes z d k in
-      let b = pieces lbaOf l in
-      let g = pieces (λ s. bytesFrom x ss (s .source)) l in
-      let lb : length b ≡ k * 4 = length-pieces lbaOf 4 l (lbas-wide l) ∙ ap (λ j. j * 4) q in
-      let all : d₃ ≡ put out 0 (a ++ b ++ g) = three out d₁ d₂ d₃ 0 24 (k * 4) a b g (length-header z d k) lb (omega arith) e₁ e₂ e₃ in
-      let parts : extractOver x ss ≡ headerBytes (sectorSize x) (diskSectors x) (length l) ++ pieces lbaOf l ++ g =
-      extract-parts x n m first ls e w c
-      ∙ ap (λ (j : List Slot). headerBytes (sectorSize x) (diskSectors x) (length j) ++ pieces lbaOf j ++ pieces (λ s. bytesFrom x ss (s .source)) j) (sym p) in
-      let same : a ++ b ++ g ≡ extractOver x ss =
-      ap (λ j. headerBytes j d k ++ b ++ g) ez
-      ∙ ap (λ j. headerBytes (sectorSize x) j k ++ b ++ g) ed
-      ∙ ap (λ j. headerBytes (sectorSize x) (diskSectors x) j ++ b ++ g) (sym q)
-      ∙ sym parts in
-      record {
-        says = s ∙ ap gives (sym size) ∙ rw (many, le-leb k 64 h, size, le-leb (24 + k * 516) (length out) o);
-        leaves = all ∙ ap (put out 0) same ∙ rw (many, le-leb k 64 h, size, le-leb (24 + k * 516) (length out) o);
-      }
+use Rattle.settled.specs.Settle.{settleChecks, settledIn}
+use Rattle.writing.specs.Write.{headerStore, chainStores, tableStores, roomChecks, chainChecks, diskChecks, chainOn}
+use Rattle.sources.specs.Records.{ebrStores, laidAll, extractOver}
+use Rattle.writing.specs.Answers.{Put, Lays}
+use Rattle.sources.specs.Sources.{storesOf}
+use Rattle.writing.proofs.Told.{put-fails, put-skip}
 
 -- a table without an extended entry, and one with it
 module _ (r : Laid) (out after x : List ℕ) (t : MBR) where
@@ -144,44 +89,3 @@ header-laid x h first out after r g f l d s o =
       says = s ∙ lay-on x 0 first (length out) refuses (gives (length (newExtract x 0 first))) g l d;
       leaves = o ∙ lay-on x 0 first (length out) (λ (j : ℕ). out) (put out 0 (newExtract x 0 first)) g l d;
     })
-
--- a count over 24, and one that is not
-pub into-six : (v : Written) (out after x : List ℕ) (t : MBR) → 24 < t .count → laidSaid (v .answer) ≡ refuses 6 → v .table ≡ t → after ≡ out
-    → (laidSaid (v .answer) ≡ writeSays t x (length out)) × ((v .table ≡ writeTable t x (length out)) × (after ≡ writeLeaves t x out))
-unfolding writeSays writeTable writeLeaves writeChecks
-into-six v out after x t h s q l =
-    let e = lt-leb (t .count) 24 h in
-    (s ∙ rw e, (q ∙ rw e, l ∙ rw e))
-
-pub into-rest : (r : Laid) (out after x : List ℕ) (t : MBR) → t .count ≤ 24 → Lays r t x out after (extractChecks x ++ headerOn t x (length out))
-    → (laidSaid r ≡ writeSays t x (length out)) × (after ≡ writeLeaves t x out)
-unfolding writeSays writeLeaves writeChecks
-into-rest r out after x t h p =
-    let e = le-leb (t .count) 24 h in
-    (p .says ∙ rw e, p .leaves ∙ rw e)
-
--- the table that a block holds: what was said of it, and the table after it
-pub table-fine : (t : MBR) (x : List ℕ) (room : ℕ) (s : Said ℕ) → s ≡ writeSays t x room → Fine s t
-table-fine t x room (refuses k) e = tt
-table-fine t x room (gives n) e = go (extendedIn t) (chain-held t x room n (sym e))
-  where
-    go : (o : Option MBRPartitionEntry) → AllHold (chainChecks (geometryOf t) o (diskSectors x) (logicals t)) → first-fail (chainGeometry o t) ≡ none
-    go none h = refl
-    go (some e) h = settle-none t (e .«starting_lba») (diskSectors x) (all-hold (settleChecks (geometryOf t) (e .«starting_lba») (diskSectors x) (logicals t)) h)
-
-pub table-said : (t u : MBR) (x : List ℕ) (room : ℕ) (s : Said ℕ) → s ≡ writeSays t x room → u ≡ tableBy s t (leftBy (extendedIn t) t) → u ≡ writeTable t x room
-unfolding writeSays writeTable
-table-said t u x room s e q =
-    q ∙ ap (λ (z : Said ℕ). tableBy z t (leftBy (extendedIn t) t)) e ∙ table-checked (writeChecks t x room) (length (extractOver x (tableStores t))) t (leftBy (extendedIn t) t)
-
--- logical partitions replaced one by one
-pub some-more : (s l m : List LogicalPartition) (i : ℕ) → m ≡ take i s ++ drop i l → i < length s → i < length l → set m i (getD s i noLogical) ≡ take (i + 1) s ++ drop (i + 1) l
-some-more s l m i e h k =
-    let a = getD s i noLogical in
-    let n : length (take i s) ≡ i = length-take-le i s (omega arith) in
-    ap (λ (z : List LogicalPartition). set z i a) e
-    ∙ ap (λ (z : List LogicalPartition). set (take i s ++ z) i a) (drop-cons l i noLogical k)
-    ∙ set-at (take i s) (getD l i noLogical) (drop (suc i) l) a i n
-    ∙ sym (append-snoc (take i s) a (drop (suc i) l))
-    ∙ ap (λ (z : List LogicalPartition). z ++ drop (suc i) l) (sym (take-suc s i noLogical h))
-    ∙ ap (λ j. take j s ++ drop j l) (sym (add-one i))

@@ -1,5 +1,5 @@
 use mathlib.Core.Path.{ap, _∙_}
-use Rattle.abi.specs.Packed.{status}
+use Rattle.packed.specs.Packed.{status}
 use Rattle.base.specs.Said.{failure}
 use borrow.Author.Needs.{needs}
 use Rattle.abi.proofs.cv_extract_check.Statement.{statement}

@@ -5,8 +5,8 @@ use Rattle.base.specs.Said.{gives}
 use Rattle.extract.specs.Extract.{diskSectors, count, lbas, Good}
 use Rattle.extract.specs.Answers.{headerSaid, headerOf}
 use Rattle.extract.proofs.Good.{good-told, bad-told, look-bad, look-good, look-past}
-use Rattle.abi.specs.Packed.{packedOption}
-use Rattle.abi.specs.Place.{recordPlace}
+use Rattle.packed.specs.Packed.{packedOption}
+use Rattle.recordplace.specs.Place.{recordPlace}
 use borrow.Author.Needs.{needs}
 use Rattle.abi.proofs.cv_look_up.Statement.{statement}
 use Rattle.abi.proofs.cv_look_up.Tie as tie

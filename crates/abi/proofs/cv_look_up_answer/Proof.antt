@@ -1,5 +1,5 @@
 use mathlib.Core.Path.{ap, _∙_}
-use Rattle.abi.specs.Packed.{status}
+use Rattle.packed.specs.Packed.{status}
 use borrow.Author.Needs.{needs}
 use Rattle.abi.proofs.cv_look_up_answer.Statement.{statement}
 use Rattle.abi.proofs.cv_look_up_answer.Tie as tie

@@ -1,5 +1,5 @@
 use mathlib.Core.Path.{ap, _∙_}
-use Rattle.abi.specs.Packed.{packedOption}
+use Rattle.packed.specs.Packed.{packedOption}
 use borrow.Author.Needs.{needs}
 use Rattle.abi.proofs.cv_wanted.Statement.{statement}
 use Rattle.abi.proofs.cv_wanted.Tie as tie

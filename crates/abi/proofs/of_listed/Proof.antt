@@ -1,5 +1,5 @@
 use mathlib.Core.Path.{sym, ap, _∙_}
-use Rattle.abi.specs.Packed.{packed}
+use Rattle.packed.specs.Packed.{packed}
 use Rattle.listing.specs.Listing.{listed}
 use borrow.Author.Needs.{needs}
 use Rattle.abi.proofs.of_listed.Statement.{statement}

@@ -1,6 +1,6 @@
 use mathlib.Core.Path.{ap, _∙_}
 use lib.ListN.{length}
-use Rattle.abi.specs.Packed.{packed}
+use Rattle.packed.specs.Packed.{packed}
 use Rattle.request.specs.declared.Request.{Request}
 use Rattle.careful.specs.Careful.{carefulPushSays}
 use Rattle.careful.specs.Output.{outAfter, counted}

@@ -1,5 +1,5 @@
 use mathlib.Core.Path.{ap, _∙_}
-use Rattle.abi.specs.Packed.{packed}
+use Rattle.packed.specs.Packed.{packed}
 use borrow.Author.Needs.{needs}
 use Rattle.abicareful.proofs.cv_careful_remove.Statement.{statement}
 use Rattle.abicareful.proofs.cv_careful_remove.Tie as tie

@@ -1,5 +1,5 @@
 use mathlib.Core.Path.{sym, ap, _∙_}
-use Rattle.abi.specs.Packed.{packed}
+use Rattle.packed.specs.Packed.{packed}
 use Rattle.change.specs.Change.{changedSaid}
 use borrow.Author.Needs.{needs}
 use Rattle.abicareful.proofs.of_changed.Statement.{statement}

@@ -2,8 +2,9 @@ use mathlib.Core.List.{List}
 use mathlib.Core.Path.{ap, _∙_}
 use Prim.Native.Nat.{ℕ}
 use lib.ListN.{length}
-use Rattle.lookup.specs.Disk.{newSays}
-use Rattle.abitable.specs.Blocks.{number, blockAfter, alone}
+use Rattle.newtable.specs.Disk.{newSays}
+use Rattle.onblock.specs.Blocks.{number}
+use Rattle.blockput.specs.Put.{blockAfter, alone}
 use Rattle.abiedit.proofs.Laws.{given-done}
 use borrow.Author.Needs.{needs}
 use Rattle.abiedit.proofs.cv_new_from.Statement.{statement}

@@ -1,10 +1,10 @@
 use mathlib.Core.Path.{sym, ap, _∙_}
 use Rattle.base.specs.Said.{refusal, valueOr}
 use Rattle.table.specs.declared.MBR.{MBR}
-use Rattle.lookup.specs.Remove.{removeAtSays}
-use Rattle.abitable.specs.Blocks.{number}
-use Rattle.abitable.proofs.Laws.{on-refused, on-done, after-refused, after-done}
-use Rattle.abiedit.specs.Edit.{removedAtOn}
+use Rattle.removeat.specs.RemoveAt.{removeAtSays}
+use Rattle.onblock.specs.Blocks.{number}
+use Rattle.onblock.proofs.Laws.{on-refused, on-done, after-refused, after-done}
+use Rattle.blockat.specs.Removed.{removedAtOn}
 use Rattle.abiedit.proofs.Changed.{removed-at-table}
 use borrow.Author.Needs.{needs}
 use Rattle.abiedit.proofs.cv_remove_at_sector.Statement.{statement}

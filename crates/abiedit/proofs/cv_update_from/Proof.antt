@@ -1,10 +1,10 @@
 use mathlib.Core.Path.{sym, ap, _∙_}
 use Rattle.base.specs.Said.{refusal, valueOr}
 use Rattle.table.specs.declared.MBR.{MBR}
-use Rattle.lookup.specs.Disk.{updateSays}
-use Rattle.abitable.specs.Blocks.{blockSays, number}
-use Rattle.abitable.proofs.Laws.{on-refused, on-done, after-refused, after-done}
-use Rattle.abiedit.specs.Edit.{updatedOn}
+use Rattle.newtable.specs.Disk.{updateSays}
+use Rattle.onblock.specs.Blocks.{blockSays, number}
+use Rattle.onblock.proofs.Laws.{on-refused, on-done, after-refused, after-done}
+use Rattle.blockdisk.specs.Updated.{updatedOn}
 use borrow.Author.Needs.{needs}
 use Rattle.abiedit.proofs.cv_update_from.Statement.{statement}
 use Rattle.abiedit.proofs.cv_update_from.Tie as tie

@@ -1,9 +1,9 @@
 use mathlib.Core.Path.{refl, sym, ap, _∙_}
 use lib.ListN.{length}
 use Rattle.base.specs.Said.{refusal}
-use Rattle.abitable.specs.Blocks.{blockSays}
-use Rattle.abitable.proofs.Laws.{block-refused, block-done, block-length}
-use Rattle.abifree.proofs.Laws.{block-count, runs-refused, runs-done}
+use Rattle.onblock.specs.Blocks.{blockSays}
+use Rattle.onblock.proofs.Laws.{block-refused, block-done, block-good}
+use Rattle.abifree.proofs.Laws.{runs-refused, runs-done}
 use borrow.Author.Needs.{needs}
 use Rattle.abifree.proofs.cv_find_free_sectors.Statement.{statement}
 use Rattle.abifree.proofs.cv_find_free_sectors.Tie as tie
@@ -24,7 +24,7 @@ free-on-requires : tie.Need-free-on-requires
 free-on-requires c κs =
     let b = c .before .before .before .before .before .before .args .b .now in
     let h = sym (c .before .before .before .check .ensures) ∙ ap refusal (c .before .enum-told .given .1) in
-    (block-length b h, block-count b h)
+    block-good b h
 
 returns : tie.Need-returns
 returns c =

@@ -1,5 +1,5 @@
 use mathlib.Core.Path.{ap, _∙_}
-use Rattle.abi.specs.Packed.{packed}
+use Rattle.packed.specs.Packed.{packed}
 use Rattle.abiheader.proofs.Laws.{write-refused, write-done}
 use borrow.Author.Needs.{needs}
 use Rattle.abiheader.proofs.cv_write_header.Statement.{statement}

@@ -1,10 +1,9 @@
 use mathlib.Core.Path.{refl, sym, ap, _∙_}
-use Rattle.abi.specs.Packed.{packedOption}
+use Rattle.packed.specs.Packed.{packedOption}
 use Rattle.base.specs.Said.{Said, refusal, andThen}
 use Rattle.table.specs.declared.MBR.{MBR}
-use Rattle.lookup.specs.Find.{findSays}
-use Rattle.abitable.proofs.Laws.{block-refused, block-done}
-use Rattle.abilook.proofs.Laws.{block-good}
+use Rattle.bysector.specs.Find.{findSays}
+use Rattle.onblock.proofs.Laws.{block-refused, block-done, block-good}
 use borrow.Author.Needs.{needs}
 use Rattle.abilook.proofs.cv_find_at_sector.Statement.{statement}
 use Rattle.abilook.proofs.cv_find_at_sector.Tie as tie

@@ -2,9 +2,9 @@ use mathlib.Core.Path.{refl, sym, ap, _∙_}
 use Rattle.base.specs.Said.{Said, refusal, andThen}
 use Rattle.table.specs.declared.MBR.{MBR}
 use Rattle.lookup.specs.Numbers.{getSays}
-use Rattle.abitable.proofs.Laws.{block-refused, block-done}
-use Rattle.abitable.specs.Blocks.{blockSays}
-use Rattle.abilook.proofs.Laws.{entry-is, block-good}
+use Rattle.onblock.proofs.Laws.{block-refused, block-done, block-good}
+use Rattle.onblock.specs.Blocks.{blockSays}
+use Rattle.blockget.proofs.Laws.{entry-is}
 use borrow.Author.Needs.{needs}
 use Rattle.abilook.proofs.cv_get.Statement.{statement}
 use Rattle.abilook.proofs.cv_get.Tie as tie

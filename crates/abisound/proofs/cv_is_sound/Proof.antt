@@ -2,8 +2,8 @@ use mathlib.Core.Path.{sym, ap, _∙_}
 use Rattle.base.specs.Said.{Said, refusal, andThen}
 use Rattle.table.specs.declared.MBR.{MBR}
 use Rattle.abisound.specs.Sound.{soundSays}
-use Rattle.abi.specs.Packed.{packedBool}
-use Rattle.abitable.proofs.Laws.{block-refused, block-done, block-length}
+use Rattle.packed.specs.Packed.{packedBool}
+use Rattle.onblock.proofs.Laws.{block-refused, block-done, block-length}
 use borrow.Author.Needs.{needs}
 use Rattle.abisound.proofs.cv_is_sound.Statement.{statement}
 use Rattle.abisound.proofs.cv_is_sound.Tie as tie

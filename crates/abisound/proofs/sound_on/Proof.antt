@@ -1,6 +1,6 @@
 use mathlib.Core.Path.{sym, ap, _∙_}
 use Rattle.soundtest.specs.Said.{soundSaid}
-use Rattle.abi.specs.Packed.{packedBool}
+use Rattle.packed.specs.Packed.{packedBool}
 use borrow.Author.Needs.{needs}
 use Rattle.abisound.proofs.sound_on.Statement.{statement}
 use Rattle.abisound.proofs.sound_on.Tie as tie

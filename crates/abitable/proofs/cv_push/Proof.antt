@@ -2,9 +2,9 @@ use mathlib.Core.Path.{sym, ap, _∙_}
 use Rattle.base.specs.Said.{refusal}
 use Rattle.table.specs.declared.MBR.{MBR}
 use Rattle.push.specs.Push.{pushSays, pushTable}
-use Rattle.abi.specs.Packed.{packed}
-use Rattle.abitable.specs.Blocks.{pushedOn}
-use Rattle.abitable.proofs.Laws.{on-refused, on-done, after-refused, after-done}
+use Rattle.packed.specs.Packed.{packed}
+use Rattle.blockpush.specs.Pushed.{pushedOn}
+use Rattle.onblock.proofs.Laws.{on-refused, on-done, after-refused, after-done}
 use Rattle.abitable.proofs.Changed.{pushed-table}
 use borrow.Author.Needs.{needs}
 use Rattle.abitable.proofs.cv_push.Statement.{statement}

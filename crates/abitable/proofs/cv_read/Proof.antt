@@ -2,7 +2,8 @@ use mathlib.Core.Path.{sym, ap, _∙_}
 use Rattle.extract.specs.Answers.{outcomeSaid}
 use Rattle.read.specs.Read.{readSays}
 use Rattle.abitable.specs.Blocks.{tableSays}
-use Rattle.abitable.proofs.Laws.{read-refused, read-done, table-refused, table-done}
+use Rattle.abitable.proofs.Laws.{read-refused, read-done}
+use Rattle.blockput.proofs.Laws.{table-refused, table-done}
 use borrow.Author.Needs.{needs}
 use Rattle.abitable.proofs.cv_read.Statement.{statement}
 use Rattle.abitable.proofs.cv_read.Tie as tie

@@ -3,9 +3,10 @@ use mathlib.Core.List.{List}
 use Prim.Native.Nat.{ℕ}
 use Rattle.base.specs.Said.{refusal}
 use Rattle.table.specs.declared.MBR.{MBR}
-use Rattle.lookup.specs.Remove.{removedTable}
-use Rattle.abitable.specs.Blocks.{number, removedOn}
-use Rattle.abitable.proofs.Laws.{on-refused, on-done, after-refused, after-done}
+use Rattle.remove.specs.Remove.{removedTable}
+use Rattle.onblock.specs.Blocks.{number}
+use Rattle.blockless.specs.Removed.{removedOn}
+use Rattle.onblock.proofs.Laws.{on-refused, on-done, after-refused, after-done}
 use Rattle.abitable.proofs.Changed.{removed-table}
 use borrow.Author.Needs.{needs}
 use Rattle.abitable.proofs.cv_remove.Statement.{statement}

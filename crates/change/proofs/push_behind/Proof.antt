@@ -2,9 +2,10 @@ use mathlib.Core.Path.{sym, ap, _∙_}
 use lib.ListN.{length}
 use Rattle.base.specs.Said.{refusal}
 use Rattle.push.specs.Push.{laterThan, newLogical}
-use Rattle.pushstore.proofs.Laws.{tells-refused, tells-same}
+use Rattle.pushwrite.proofs.Laws.{tells-refused, tells-same}
 use Rattle.change.proofs.Laws.{behind-fails, behind-holds}
-use Rattle.pushstore.specs.Behind.{spaceBehind, storesBehind}
+use Rattle.pushstore.specs.Space.{spaceBehind}
+use Rattle.pushwrite.specs.Behind.{storesBehind}
 use Rattle.change.specs.Change.{checksBehind}
 use borrow.Author.Needs.{needs}
 use Rattle.change.proofs.push_behind.Statement.{statement}

@@ -11,7 +11,7 @@ use lib.Seq.{length-take-le}
 use Rattle.table.specs.Table.{logicals}
 use Rattle.sound.specs.Sound.{contentsOf, soundb}
 use Rattle.careful.specs.Careful.{askChecks, pushRefusals, pushChange}
-use Rattle.pushstore.proofs.Laws.{tells-refused}
+use Rattle.pushwrite.proofs.Laws.{tells-refused}
 use Rattle.change.proofs.Laws.{push-20, push-23, push-8, push-told}
 use borrow.Author.Needs.{needs}
 use Rattle.change.proofs.push_on.Statement.{statement}

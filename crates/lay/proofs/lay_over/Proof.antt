@@ -21,7 +21,7 @@ use Rattle.lay.proofs.lay_over.Reads as reads
 use Rattle.lay.proofs.lay_over.Lts as lts
 use Rattle.extract.proofs.check.Reads as check-reads
 use Rattle.extract.proofs.seek.Reads as seek-reads
-use Rattle.lay.proofs.lay_at.Reads as lay-at-reads
+use Rattle.replace.proofs.lay_at.Reads as lay-at-reads
 
 check-requires : tie.Need-check-requires
 check-requires c κs = search needs

@@ -5,7 +5,7 @@ use native.Mathlib.Omega.{arith}
 use Rattle.base.specs.Put.{put}
 use Rattle.block.specs.Block.{slotsPart, tableIn}
 use Rattle.block.specs.Fits.{SlotsFit}
-use Rattle.settle.specs.Settle.{settledIn}
+use Rattle.settled.specs.Settle.{settledIn}
 use Rattle.leave.proofs.Laws.{leave-start, turn-held, turn-in, turn-none, turn-same, turn-put, leave-end}
 use borrow.Author.Needs.{needs}
 use Rattle.leave.proofs.leave.Statement.{statement}

@@ -12,7 +12,7 @@ use Rattle.logicals.proofs.part_at.Statement.{statement}
 use Rattle.logicals.proofs.part_at.Tie as tie
 use Rattle.logicals.proofs.part_at.Reads as reads
 use Rattle.logicals.proofs.part_at.Lts as lts
-use Rattle.entry.proofs.read.Reads as read-reads
+use Rattle.entryread.proofs.read.Reads as read-reads
 use Rattle.extract.proofs.lba_at.Reads as lba-at-reads
 use Rattle.extract.proofs.record_at.Reads as record-at-reads
 

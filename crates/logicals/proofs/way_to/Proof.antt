@@ -13,7 +13,7 @@ use Rattle.logicals.proofs.way_to.Tie as tie
 use Rattle.logicals.proofs.way_to.Reads as reads
 use Rattle.logicals.proofs.way_to.Lts as lts
 use Rattle.logicals.proofs.way_of.Reads as way-of-reads
-use Rattle.entry.proofs.read.Reads as read-reads
+use Rattle.entryread.proofs.read.Reads as read-reads
 use Rattle.extract.proofs.record_at.Reads as record-at-reads
 
 returns : tie.Need-returns

@@ -3,8 +3,10 @@ use Prim.Native.Nat.{_≤_, _<_}
 use lib.ListN.{length}
 use Rattle.entry.specs.Entry.{endOf}
 use Rattle.chain.specs.Facts.{at}
-use Rattle.pushstore.proofs.Laws.{tells-refused, tells-stored, space-12, space-21, space-19, space-holds}
-use Rattle.pushstore.specs.Behind.{spaceBehind, storesBehind}
+use Rattle.pushwrite.specs.Behind.{storesBehind}
+use Rattle.pushwrite.proofs.Laws.{tells-refused, tells-stored}
+use Rattle.pushstore.specs.Space.{spaceBehind}
+use Rattle.pushstore.proofs.Laws.{space-12, space-21, space-19, space-holds}
 use borrow.Author.Needs.{needs}
 use Rattle.pushstore.proofs.push_new.Statement.{statement}
 use Rattle.pushstore.proofs.push_new.Tie as tie

@@ -13,11 +13,11 @@ use Rattle.plan.proofs.Laws.{pieces-none, pieces-more, Wide, each-at}
 use Rattle.base.proofs.Put.{length-put}
 use Rattle.table.specs.declared.LogicalPartition.{LogicalPartition}
 use Rattle.block.specs.Block.{tableIn}
-use Rattle.settle.specs.Settle.{settledIn}
-use Rattle.settle.proofs.Laws.{held-long, settled-long}
-use Rattle.records.specs.Records.{ebrStores}
-use Rattle.records.specs.Sources.{bytesFrom, storesOf, CodeLong, Valid}
-use Rattle.records.proofs.Laws.{codes-held, plan-wide, valid-at, link-none, link-some, kept-source, ebr-source, kept-bytes, ebr-bytes}
+use Rattle.settled.specs.Settle.{settledIn}
+use Rattle.settled.proofs.Laws.{held-long, settled-long}
+use Rattle.sources.specs.Records.{ebrStores}
+use Rattle.sources.specs.Sources.{bytesFrom, storesOf, CodeLong, Valid}
+use Rattle.sources.proofs.Laws.{codes-held, plan-wide, valid-at, link-none, link-some, kept-source, ebr-source, kept-bytes, ebr-bytes}
 use borrow.Author.Needs.{needs}
 use Rattle.records.proofs.put_records.Statement.{statement}
 use Rattle.records.proofs.put_records.Tie as tie

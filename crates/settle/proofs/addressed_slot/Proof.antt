@@ -5,8 +5,8 @@ use Rattle.table.specs.Table.{logicals}
 use Rattle.address.specs.declared.Geometry.{Geometry}
 use Rattle.block.specs.Block.{tableIn}
 use Rattle.push.specs.Push.{geometryOf}
-use Rattle.settle.specs.Settle.{byGeometry, slotGeometry}
-use Rattle.settle.proofs.Laws.{settled-at, held-in}
+use Rattle.settled.specs.Settle.{byGeometry, slotGeometry}
+use Rattle.settled.proofs.Laws.{settled-at, held-in}
 use borrow.Author.Needs.{needs}
 use Rattle.settle.proofs.addressed_slot.Statement.{statement}
 use Rattle.settle.proofs.addressed_slot.Tie as tie

@@ -7,8 +7,8 @@ use Rattle.base.specs.Checks.{first-fail}
 use Rattle.table.specs.Table.{logicals}
 use Rattle.block.specs.Block.{tableIn}
 use Rattle.push.specs.Push.{geometryOf}
-use Rattle.settle.specs.Settle.{firstAt, allGeometry, geometryChecks}
-use Rattle.settle.proofs.Laws.{length-first, geometry-fails, geometry-holds, geometry-end, held-long}
+use Rattle.settled.specs.Settle.{firstAt, allGeometry, geometryChecks}
+use Rattle.settled.proofs.Laws.{length-first, geometry-fails, geometry-holds, geometry-end, held-long}
 use borrow.Author.Needs.{needs}
 use Rattle.settle.proofs.addresses.Statement.{statement}
 use Rattle.settle.proofs.addresses.Tie as tie

@@ -1,5 +1,5 @@
 use mathlib.Core.Path.{_∙_}
-use Rattle.settle.proofs.Laws.{held-none}
+use Rattle.settled.proofs.Laws.{held-none}
 use borrow.Author.Needs.{needs}
 use Rattle.settle.proofs.settled_slot.Statement.{statement}
 use Rattle.settle.proofs.settled_slot.Tie as tie

@@ -1,4 +1,5 @@
-use Rattle.spot.proofs.Laws.{hit, passed, refused, at-end, leads}
+use Rattle.spotturn.proofs.Laws.{hit, passed, refused, at-end}
+use Rattle.spot.proofs.Laws.{leads}
 use Rattle.block.specs.Block.{tableIn}
 use Rattle.mbr.specs.Mbr.{primaries}
 use Rattle.hits.specs.Hits.{firstAt, holdsSaid}

@@ -1,4 +1,4 @@
--- `update::update_chs` meets its contract: a walk of its MIR, by hand. The borrow is opened, what lies there is copied and passed to `address::update_chs`, of which only the contract is known;
+-- `update::update_chs` meets its contract: a walk of its MIR, by hand. The borrow is opened, what lies there is copied and passed to `addresses::update_chs`, of which only the contract is known;
 -- of the record returned the partition is stored behind the reference, the borrow is closed at it, and the answer is the result.
 -- Assumes nothing.
 use mathlib.Core.Path.{_≡_, refl}
@@ -52,10 +52,10 @@ use Rattle.base.proofs.Answer as N
 use Rattle.base.proofs.Answer.Laws as N′
 use Rattle.address.proofs.Updated as U
 use Rattle.address.proofs.Updated.Laws as U′
-use Rattle.address.proofs.update_chs as by-value
-use Rattle.address.proofs.update_chs.Symbol as by-value-def
-use Rattle.address.proofs.update_chs.Symbol.{name as #push·update-chs}
-use Rattle.address.proofs.update_chs.Met as by-value-thm
+use Rattle.addresses.proofs.update_chs as by-value
+use Rattle.addresses.proofs.update_chs.Symbol as by-value-def
+use Rattle.addresses.proofs.update_chs.Symbol.{name as #push·update-chs}
+use Rattle.addresses.proofs.update_chs.Met as by-value-thm
 use Rattle.update.proofs.update_chs.Key.{name as #update·update-chs}
 use Rattle.update.proofs.update_chs as f
 use Rattle.update.proofs.update_chs.Statement as stated
@@ -184,4 +184,4 @@ update-chs-spec 𝓤 H 𝓜 𝓖 𝓡 =
     entered 𝓤 H (tripleOf 𝓤 H (𝓖 .A) f.signature (f.spec 𝓤 H (𝓖 .A) (𝓜 .mem) (𝓡 .run)))
     (tables 𝓤 H 𝓜 𝓡 code.env .C) (tables 𝓤 H 𝓜 𝓡 code.env .Λ) #update·update-chs code.function (code.unfolded 𝓤 H 𝓜 𝓡)
     (update-chs-meets 𝓤 H (𝓖 .A) (givenOf 𝓤 H 𝓜 𝓖) (𝓜 .mem) (𝓡 .run) (tablesOf 𝓤 H 𝓜 (tables 𝓤 H 𝓜 𝓡 code.env))
-    (cited 𝓤 H (ByValue 𝓤 H (𝓖 .A) (𝓜 .mem) (𝓡 .run)) 𝓜 𝓡 code.env #push·update-chs by-value-def.routine code.calls-address·update-chs (by-value-thm.met 𝓤 H 𝓜 𝓖 𝓡)))
+    (cited 𝓤 H (ByValue 𝓤 H (𝓖 .A) (𝓜 .mem) (𝓡 .run)) 𝓜 𝓡 code.env #push·update-chs by-value-def.routine code.calls-addresses·update-chs (by-value-thm.met 𝓤 H 𝓜 𝓖 𝓡)))

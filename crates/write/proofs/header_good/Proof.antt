@@ -3,9 +3,9 @@ use mathlib.Core.List.{[], _∷_, _++_}
 use mathlib.Core.Path.{refl, sym, ap, _∙_}
 use Rattle.base.specs.Said.{refusal}
 use Rattle.mbr.specs.Mbr.{headerChecks}
-use Rattle.records.specs.Records.{extractOver}
-use Rattle.write.specs.Write.{headerStore, diskChecks, roomChecks}
-use Rattle.write.proofs.Told.{put-fails, put-skip}
+use Rattle.sources.specs.Records.{extractOver}
+use Rattle.writing.specs.Write.{headerStore, diskChecks, roomChecks}
+use Rattle.writing.proofs.Told.{put-fails, put-skip}
 use Rattle.write.proofs.Steps.{disk-none, disk-some, disk-above}
 use borrow.Author.Needs.{needs}
 use Rattle.write.proofs.header_good.Statement.{statement}

@@ -3,10 +3,10 @@ use Rattle.write.proofs.header_record.Statement.{statement}
 use Rattle.write.proofs.header_record.Tie as tie
 use Rattle.write.proofs.header_record.Reads as reads
 use Rattle.write.proofs.header_record.Lts as lts
-use Rattle.mbrwrite.proofs.write_all.Reads as write-all-reads
+use Rattle.mbrbytes.proofs.write_all.Reads as write-all-reads
 use lib.ListN.{length}
 use mathlib.Core.Path.{_≡_, refl, sym, ap, _∙_}
-use Rattle.records.proofs.Laws.{put-whole, length-mbr}
+use Rattle.sources.proofs.Laws.{put-whole, length-mbr}
 use lib.ListN.{replicate, length-replicate}
 use Prim.Native.Nat.{ℕ}
 use Rattle.mbr.specs.Mbr.{mbrBytes}

@@ -5,11 +5,11 @@ use Rattle.extract.specs.Extract.{extractChecks}
 use Rattle.extract.specs.Answers.{headerSaid}
 use Rattle.extract.proofs.Good.{good-told, bad-told}
 use Rattle.block.specs.Block.{tableIn}
-use Rattle.records.specs.Records.{extractOver}
+use Rattle.sources.specs.Records.{extractOver}
 use Rattle.layover.specs.declared.Laid.the-variants as laid
-use Rattle.write.specs.Write.{tableStores, headerOn}
-use Rattle.write.proofs.Told.{put-fails, put-skip}
-use Rattle.write.proofs.Steps.{into-rest}
+use Rattle.writing.specs.Write.{tableStores, headerOn}
+use Rattle.writing.proofs.Told.{put-fails, put-skip}
+use Rattle.writing.proofs.Said.{into-rest}
 use borrow.Author.Needs.{needs}
 use Rattle.write.proofs.write_block.Statement.{statement}
 use Rattle.write.proofs.write_block.Tie as tie

@@ -6,8 +6,8 @@ use Rattle.extract.specs.declared.Extract.{Extract}
 use Rattle.table.specs.Table.{logicals}
 use Rattle.block.specs.Block.{tableIn}
 use Rattle.push.specs.Push.{geometryOf}
-use Rattle.settle.specs.Settle.{settleChecks}
-use Rattle.settle.proofs.Laws.{settle-none}
+use Rattle.settled.specs.Settle.{settleChecks}
+use Rattle.settled.proofs.Laws.{settle-none}
 use Rattle.write.proofs.Steps.{chain-put, chain-refused}
 use borrow.Author.Needs.{needs}
 use Rattle.write.proofs.write_chain.Statement.{statement}

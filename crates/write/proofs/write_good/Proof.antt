@@ -5,9 +5,9 @@ use Rattle.base.specs.Checks.{first-fail}
 use Rattle.mbr.specs.declared.MBRHeader.{MBRHeader}
 use Rattle.mbr.specs.Mbr.{headerChecks}
 use Rattle.block.specs.Block.{tableIn}
-use Rattle.records.specs.Records.{extractOver}
-use Rattle.write.specs.Write.{tableStores, diskOn}
-use Rattle.write.proofs.Told.{put-fails, put-skip}
+use Rattle.sources.specs.Records.{extractOver}
+use Rattle.writing.specs.Write.{tableStores, diskOn}
+use Rattle.writing.proofs.Told.{put-fails, put-skip}
 use borrow.Author.Needs.{needs}
 use Rattle.write.proofs.write_good.Statement.{statement}
 use Rattle.write.proofs.write_good.Tie as tie

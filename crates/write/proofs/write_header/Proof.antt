@@ -13,10 +13,10 @@ use Rattle.mbr.specs.Mbr.{headerChecks}
 use Rattle.extract.specs.Extract.{extractChecks}
 use Rattle.extract.specs.Answers.{headerSaid}
 use Rattle.extract.proofs.Good.{good-told, bad-told}
-use Rattle.write.specs.Write.{headerStore, diskChecks, roomChecks, headerOnlyChecks}
-use Rattle.records.specs.Records.{extractOver}
-use Rattle.write.specs.Answers.{headerSays, headerLeaves}
-use Rattle.write.proofs.Told.{put-fails, put-skip}
+use Rattle.writing.specs.Write.{headerStore, diskChecks, roomChecks, headerOnlyChecks}
+use Rattle.sources.specs.Records.{extractOver}
+use Rattle.writing.specs.Answers.{headerSays, headerLeaves}
+use Rattle.writing.proofs.Told.{put-fails, put-skip}
 use Rattle.layover.specs.declared.Laid.the-variants as laid
 
 check-requires : tie.Need-check-requires

@@ -3,8 +3,8 @@ use Prim.Native.Nat.{_≤_}
 use mathlib.Core.Path.{refl, sym, ap, subst, _∙_}
 use Rattle.layover.specs.Answers.{laidSaid}
 use Rattle.table.specs.declared.MBR.{MBR}
-use Rattle.write.specs.Answers.{writeSays, writeLeaves}
-use Rattle.write.proofs.Steps.{into-six, table-fine, table-said}
+use Rattle.writing.specs.Answers.{writeSays, writeLeaves}
+use Rattle.writing.proofs.Said.{into-six, table-fine, table-said}
 use borrow.Author.Needs.{needs}
 use Rattle.write.proofs.write_into.Statement.{statement}
 use Rattle.write.proofs.write_into.Tie as tie
@@ -15,7 +15,7 @@ refuse-requires c κs = search needs
 returns : tie.Need-returns
 returns c =
     let a = c .before .before .before .before .before .args in
-    into-six (c .refuse .result) (a .out .now) _ (a .x .now) (a .t) (c .before .if1 .taken) (c .refuse .ensures .0) (c .refuse .ensures .1) refl
+    into-six (c .refuse .result .answer) (c .refuse .result .table) (a .out .now) _ (a .x .now) (a .t) (c .before .if1 .taken) (c .refuse .ensures .0) (c .refuse .ensures .1) refl
 
 slice-aggregate-hold : tie.Need-slice-aggregate-hold
 slice-aggregate-hold c = search needs

@@ -3,9 +3,9 @@ use mathlib.Core.Path.{refl, sym, ap, _∙_}
 use Rattle.mbr.specs.declared.MBRHeader.{MBRHeader}
 use Rattle.mbr.specs.Mbr.{primaries, extendedOf, found}
 use Rattle.block.specs.Block.{tableIn}
-use Rattle.records.specs.Records.{extractOver}
-use Rattle.write.specs.Write.{tableStores, diskChecks, chainOn}
-use Rattle.write.proofs.Told.{put-fails, put-skip}
+use Rattle.sources.specs.Records.{extractOver}
+use Rattle.writing.specs.Write.{tableStores, diskChecks, chainOn}
+use Rattle.writing.proofs.Told.{put-fails, put-skip}
 use Rattle.write.proofs.Steps.{plain-put, disk-none, disk-some, disk-above}
 use borrow.Author.Needs.{needs}
 use Rattle.write.proofs.write_on.Statement.{statement}

@@ -1,0 +1,91 @@
+// A logical partition with its four addresses.
+use address::Geometry;
+use address::Linked;
+use address::Updated;
+use base::Answer;
+use chs::CHS;
+use chs::Placed;
+use table::LogicalPartition;
+ghost use mathlib.Core.Path.{_≡_};
+ghost use mathlib.Core.Option.{none, some};
+ghost use mathlib.Core.List.{[]};
+ghost use Rattle.base.specs.Pick.{pick};
+ghost use Rattle.base.specs.Said.{refusal, failure, valueOr};
+ghost use Rattle.base.specs.Checks.{first-fail};
+ghost use Rattle.chs.specs.Chs.{placed};
+ghost use Rattle.address.specs.Address.{complete, updateChecks, addressed, updateChs};
+ghost use Rattle.address.specs.Answers.{geometryIn, linkedSaid, settled};
+
+pub fn as_given(l: LogicalPartition, k: u8) -> Updated
+    ensures { λ r. ⌜ (refusal (r .answer) ≡ some k) × (r .logical ≡ l) ⌝ }
+{
+    Updated {
+        answer: Answer::Refused(k),
+        logical: l,
+    }
+}
+
+// The four addresses, in their order: the first refusal, or the partition with them.
+fn settle(l: LogicalPartition, first: Placed, last: Placed, link: Placed, end: Linked) -> Updated
+    ensures { λ r. ⌜ refusal (r .answer) ≡ failure (settled l (placed first) (placed last) (placed link) (linkedSaid end)) ⌝ }
+    ensures { λ r. ⌜ r .logical ≡ valueOr l (settled l (placed first) (placed last) (placed link) (linkedSaid end)) ⌝ }
+{
+    match first {
+        Placed::Refused(k) => as_given(l, k),
+        Placed::At(a) => match last {
+            Placed::Refused(k) => as_given(l, k),
+            Placed::At(b) => match link {
+                Placed::Refused(k) => as_given(l, k),
+                Placed::At(c) => match end {
+                    Linked::Refused(k) => as_given(l, k),
+                    Linked::At(d) => Updated {
+                        answer: Answer::Done,
+                        logical: address::with_addresses(l, a, b, c, d),
+                    },
+                },
+            },
+        },
+    }
+}
+
+// The partition with its four addresses.
+fn update(g: Geometry, l: LogicalPartition) -> Updated
+    ensures { λ r. ⌜ refusal (r .answer) ≡ failure (updateChs g l) ⌝ }
+    ensures { λ r. ⌜ r .logical ≡ valueOr l (updateChs g l) ⌝ }
+{
+    let p = l.partition;
+    let place = l.absolute_ebr_lba;
+    let sectors = l.ebr_sectors;
+    let first = CHS::from_lba_exact(p.starting_lba, g.cylinders, g.heads, g.sectors);
+    let last = address::last_of(g, p.starting_lba, p.sectors);
+    let link = CHS::from_lba_exact(place.0, g.cylinders, g.heads, g.sectors);
+    let end = address::link_last(g, place.0, sectors);
+    settle(l, first, last, link, end)
+}
+
+// Alters a logical partition's four addresses and nothing else: each 7, 13, 14.
+pub fn update_chs(l: LogicalPartition, cylinders: u16, heads: u8, sectors: u8) -> Updated
+    ensures { λ r. ⌜ refusal (r .answer) ≡ failure (updateChs (geometryIn cylinders heads sectors) l) ⌝ }
+    ensures { λ r. ⌜ r .logical ≡ valueOr l (updateChs (geometryIn cylinders heads sectors) l) ⌝ }
+{
+    let g = Geometry {
+        cylinders: cylinders,
+        heads: heads,
+        sectors: sectors,
+    };
+    update(g, l)
+}
+
+// The partition with its addresses, if the geometry is complete.
+pub fn with_geometry(g: Geometry, l: LogicalPartition) -> Updated
+    ensures { λ r. ⌜ refusal (r .answer) ≡ first-fail (pick (complete g) (updateChecks g l) []) ⌝ }
+    ensures { λ r. ⌜ (refusal (r .answer) ≡ none → r .logical ≡ pick (complete g) (addressed g l) l) ⌝ }
+{
+    if !address::is_complete(g) {
+        return Updated {
+            answer: Answer::Done,
+            logical: l,
+        };
+    }
+    update(g, l)
+}

@@ -1,0 +1,25 @@
+use Rattle.address.specs.Address.{complete}
+use mathlib.Core.Path.{sym, ap, _∙_}
+use borrow.Author.Tests.{le-leb}
+use borrow.Author.Needs.{needs}
+use Rattle.blockgeometry.proofs.check_on.Statement.{statement}
+use Rattle.blockgeometry.proofs.check_on.Tie as tie
+
+geometry-requires : tie.Need-geometry-requires
+geometry-requires c κs = search needs
+
+is-complete-requires : tie.Need-is-complete-requires
+is-complete-requires c κs = search needs
+
+returns : tie.Need-returns
+returns c =
+    let g = ap complete (sym (c .before .before .geometry .ensures)) ∙ sym (c .before .is-complete .ensures) ∙ c .if1 .taken in
+    rw (le-leb _ _ (c .before .before .before .before .pre .1), g)
+
+returns-2 : tie.Need-returns-2
+returns-2 c =
+    let g = ap complete (sym (c .before .before .geometry .ensures)) ∙ sym (c .before .is-complete .ensures) ∙ c .if1 .left in
+    rw (le-leb _ _ (c .before .before .before .before .pre .1), g)
+
+pub check-on-spec : {M : Type 1} → statement M
+check-on-spec = tie.close (tie.spec geometry-requires is-complete-requires returns returns-2)

@@ -1,0 +1,51 @@
+-- A block as writing leaves it, and the table in it. Assumes nothing.
+use mathlib.Core.Path.{_≡_, refl, sym, ap, subst, _∙_}
+use mathlib.Core.Option.{Option, none, some}
+use mathlib.Core.List.{List, _++_}
+use Prim.Native.Nat.{ℕ, _+_, _≤_}
+use native.Mathlib.Omega.{arith}
+use lib.ListN.{length, drop}
+use Rattle.base.specs.Put.{put}
+use Rattle.base.specs.Said.{gives}
+use Rattle.base.specs.Checks.{first-fail}
+use Rattle.entry.specs.declared.MBRPartitionEntry.{MBRPartitionEntry}
+use Rattle.table.specs.declared.LogicalPartition.{LogicalPartition}
+use Rattle.table.specs.Table.{extendedIn, withLogicals}
+use Rattle.block.specs.Block.{slotsPart, tableIn, blockChecks}
+use Rattle.block.specs.Fits.{SlotsFit}
+use Rattle.settled.specs.Settle.{relisted, settledIn}
+use Rattle.settled.proofs.Laws.{held-long, settled-long}
+use Rattle.inblock.proofs.Alike.{passed, good-says}
+use Rattle.inblock.proofs.Slots.{slots-put, slots-good}
+use Rattle.writing.specs.Write.{leftBy}
+use Rattle.onblock.specs.Blocks.{blockSays}
+use Rattle.onblock.proofs.Laws.{block-good, block-done}
+use Rattle.blockleave.specs.Left.{leftIn}
+
+-- a block as writing leaves it, and the table in it
+abbrev pub Left : List ℕ → List ℕ → Option MBRPartitionEntry → Type 0
+Left b c o = (c ≡ leftIn o b (tableIn b)) × (blockSays c ≡ gives (leftBy o (tableIn b)))
+
+module _ (b : List ℕ) (h : first-fail (blockChecks b) ≡ none) where
+  pub left-none : extendedIn (tableIn b) ≡ none → Left b b (extendedIn (tableIn b))
+  left-none e = subst (Left b b) (sym e) (refl, block-done b (tableIn b) h refl)
+
+  module _ (x : ℕ) (f : SlotsFit (settledIn (tableIn b) x)) where
+    abbrev ls : List LogicalPartition
+    ls = settledIn (tableIn b) x
+
+    many : length ls ≡ tableIn b .count
+    many = settled-long (tableIn b) x (held-long b (block-good b h))
+
+    few : 0 + length ls ≤ 24
+    few = omega (arith, many, passed b h .few)
+
+    settled-says : blockSays (put b 540 (slotsPart ls)) ≡ gives (relisted (tableIn b) ls)
+    settled-says =
+        let n : 0 + length ls ≡ tableIn b .count = omega (arith, many) in
+        good-says (put b 540 (slotsPart ls)) (relisted (tableIn b) ls) (slots-good b ls 0 (passed b h) f few)
+        (slots-put b ls 0 (passed b h) f few ∙ ap (λ (n : ℕ). withLogicals (tableIn b) (ls ++ drop n (tableIn b .«logical_partitions»)) (tableIn b .count)) n)
+
+  pub left-some : (e : MBRPartitionEntry) (c : List ℕ) → extendedIn (tableIn b) ≡ some e → c ≡ put b 540 (slotsPart (settledIn (tableIn b) (e .«starting_lba»)))
+      → SlotsFit (settledIn (tableIn b) (e .«starting_lba»)) → Left b c (extendedIn (tableIn b))
+  left-some e c i p f = subst (Left b c) (sym i) (p, ap blockSays p ∙ settled-says (e .«starting_lba») f)

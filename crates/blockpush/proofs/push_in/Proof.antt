@@ -1,0 +1,91 @@
+use mathlib.Core.Path.{sym, ap, _∙_}
+use Prim.Native.Nat.{ℕ, _+_}
+use native.Mathlib.Omega.{arith}
+use Rattle.base.specs.Said.{refusal}
+use Rattle.block.specs.Block.{tableIn}
+use Rattle.inblock.specs.Changed.{withSlot}
+use Rattle.inblock.proofs.Alike.{passed}
+use Rattle.push.proofs.Steps.{push-fails, push-done as push-gives}
+use Rattle.onblock.proofs.Laws.{block-length}
+use Rattle.table.specs.declared.LogicalPartition.{LogicalPartition}
+use Rattle.blockpush.proofs.Kept.{new-kept}
+use Rattle.blockpush.proofs.Changed.{asked, made, push-refused, push-done}
+use borrow.Author.Needs.{needs}
+use Rattle.blockpush.proofs.push_in.Statement.{statement}
+use Rattle.blockpush.proofs.push_in.Tie as tie
+
+count-requires : tie.Need-count-requires
+count-requires c κs = block-length (c .before .before .args .b .now) (c .before .before .pre .0)
+
+request-in-requires : tie.Need-request-in-requires
+request-in-requires c κs = block-length (c .before .before .before .before .args .b .now) (c .before .before .before .before .pre .0)
+
+new-logical-requires : tie.Need-new-logical-requires
+new-logical-requires c κs = search needs
+
+enum-known-a : tie.Need-enum-known-a
+enum-known-a c = search needs
+
+upper-requires : tie.Need-upper-requires
+upper-requires c κs = search needs
+
+enum-told : tie.Need-enum-told
+enum-told c = search needs
+
+add-new-requires : tie.Need-add-new-requires
+add-new-requires c κs =
+    let l = c .before .before .before .before .new-logical .ensures .1 (ap refusal (c .before .before .enum-told .given .1)) in
+    (block-length (c .before .before .before .before .before .before .before .before .before .before .args .b .now) (c .before .before .before .before .before .before .before .before .before .before .pre .0), l .1, ap (λ (l : LogicalPartition). l .kept) (l .0) ∙ new-kept _ _)
+
+add-result : tie.Need-add-result
+add-result c = omega (arith, c .before .before .before .before .before .before .before .new-logical .ensures .1 (ap refusal (c .before .before .before .before .before .enum-told .given .1)) .1)
+
+same-length : tie.Need-same-length
+same-length c = search needs
+
+returns : tie.Need-returns
+returns c =
+    let s = c .before .before .before .before .before .before .before .before .before .before in
+    let a = s .args in
+    let b = a .b .now in
+    let t = tableIn b in
+    let x = asked t (a .sys) (a .start) (a .sectors) _ (a .e) _ (c .before .before .before .before .before .request-in .ensures) (c .before .before .before .before .before .before .before .count .ensures) in
+    let f = x ∙ sym (c .before .before .before .before .new-logical .ensures .0) ∙ ap refusal (c .before .before .a .given .1) in
+    let w = push-refused b (a .sys) (a .start) (a .sectors) _ (push-fails t (a .sys) (a .start) (a .sectors) (passed b (s .pre .0) .few) (a .e) _ (s .pre .1) f .0) in
+    (c .upper .ensures ∙ w .0, w .1)
+
+same-length-2 : tie.Need-same-length-2
+same-length-2 c = search needs
+
+returns-2 : tie.Need-returns-2
+returns-2 c =
+    let s = c .before .before .before .before .before .before .before .before .before .before .before .before .before in
+    let a = s .args in
+    let b = a .b .now in
+    let t = tableIn b in
+    let q = c .before .before .before .before .before .before .before .before .request-in .ensures in
+    let n = c .before .before .before .before .before .before .before .before .before .before .count .ensures in
+    let d = ap refusal (c .before .before .before .before .before .enum-told .given .1) in
+    let x = asked t (a .sys) (a .start) (a .sectors) _ (a .e) _ q n in
+    let f = x ∙ sym (c .before .before .before .before .before .before .before .new-logical .ensures .0) ∙ d in
+    let l = c .before .before .before .before .before .before .before .new-logical .ensures .1 d .0 ∙ made t (a .sys) (a .start) (a .sectors) _ _ q n in
+    let p = push-gives t (a .sys) (a .start) (a .sectors) (passed b (s .pre .0) .few) (a .e) (s .pre .1) f .0 in
+    let w = push-done b (a .sys) (a .start) (a .sectors) _ _ p l (c .before .before .add-new .ensures ∙ ap (λ (m : ℕ). withSlot b m (c .before .before .before .before .before .before .before .new-logical .result .logical)) n) in
+    (ap (λ (m : ℕ). m + 5) n ∙ w .0, w .1)
+
+pub push-in-spec : {M : Type 1} → statement M
+push-in-spec =
+    tie.close
+    (tie.spec
+    count-requires
+    request-in-requires
+    new-logical-requires
+    enum-known-a
+    upper-requires
+    enum-told
+    add-new-requires
+    add-result
+    same-length
+    returns
+    same-length-2
+    returns-2)

@@ -1,0 +1,13 @@
+-- How an address crosses as one number. Assumes nothing.
+use Prim.Native.Nat.{ℕ, _+_, _*_}
+use Rattle.base.specs.Said.{Said, gives, refuses}
+use Rattle.chs.specs.declared.CHS.{CHS}
+use Rattle.packed.specs.Packed.{upper}
+
+-- an address: cylinder, head, sector in 16, 8 and 8 bits
+abbrev pub chsWord : CHS → ℕ
+chsWord c = c .cylinder * 65536 + c .head * 256 + c .sector
+
+abbrev pub packedChs : Said CHS → ℕ
+packedChs (gives c) = chsWord c
+packedChs (refuses k) = upper k

@@ -1,0 +1,114 @@
+// Free runs of a table, area by area: the crate's answer, and no truth about what is free.
+use base::Answer;
+use entry::MBRPartitionEntry;
+use free::FreeAnswer;
+use free::Points;
+use free::Runs;
+use mbr::Found;
+use mbr::MBRHeader;
+use table::LOGICALS;
+use table::LogicalPartition;
+use table::MBR;
+ghost use mathlib.Core.Path.{_≡_};
+ghost use mathlib.Core.List.{[], _∷_};
+ghost use Prim.Native.Nat.{_+_, _≤_, _<_};
+ghost use lib.ListN.{take};
+ghost use Rattle.base.specs.Said.{gives};
+ghost use Rattle.mbr.specs.Mbr.{primaries, found as entryFound};
+ghost use Rattle.table.specs.Table.{most};
+ghost use Rattle.free.specs.Free.{primaryZones, logicalZones, joined, free, listed, runsIn, view, more, between, positions, freeIn, mostRuns, Told};
+
+// The runs of x, and the free ones of an area.
+fn search_area(p: Points, align: u32, x: Runs) -> FreeAnswer
+    requires { ⌜ (0 < align) × ((x ≡ listed (runsIn x)) × ((p .count ≤ 50) × (x .count + x .count + p .count ≤ 60))) ⌝ }
+    ensures { λ r. ⌜ Told r (joined (runsIn x) (between align (view p))) × (r .runs .count + r .runs .count ≤ x .count + x .count + p .count) ⌝ }
+{
+    if !p.fits {
+        return free::refused(7);
+    }
+    let n = p.count;
+    let mut at = p.at;
+    sort::sort(&mut at[..n]);
+    gaps::collect(&at[..n], align, x)
+}
+
+// The positions of four primary partitions.
+pub fn primary_points(
+    one: MBRPartitionEntry,
+    two: MBRPartitionEntry,
+    three: MBRPartitionEntry,
+    four: MBRPartitionEntry,
+    disk: u32,
+) -> Points
+    ensures { λ r. ⌜ (view r ≡ positions 0 disk (primaryZones (one ∷ two ∷ three ∷ four ∷ []))) × (r .count ≤ 10) ⌝ }
+{
+    let all = Points::from(0)
+        .with(0, one)
+        .with(0, two)
+        .with(0, three)
+        .with(0, four);
+    all.to(free::wide(disk))
+}
+
+// The positions of the logical partitions, after the extended area's first.
+fn logical_points(first: u32, ls: [LogicalPartition; LOGICALS], count: usize) -> Points
+    requires { ⌜ count ≤ most ⌝ }
+    ensures { λ r. ⌜ (view r ≡ more (gives (first ∷ [])) (logicalZones (take count ls))) × (r .count < 50) ⌝ }
+{
+    let mut p = Points::from(first);
+    for i in 0..count {
+        let l = ls[i];
+        let e = l.partition;
+        p = p.with(l.absolute_ebr_lba.0, e);
+    }
+    p
+}
+
+// The free runs between the positions of the primaries, then those of the extended area, of which q has all positions but the last.
+pub fn free_in(align: u32, p: Points, found: Found, q: Points) -> FreeAnswer
+    requires { ⌜ (0 < align) × ((p .count ≤ 10) × (q .count < 50)) ⌝ }
+    ensures { λ r. ⌜ Told r (freeIn align (view p) (entryFound found) (view q)) × (r .runs .count ≤ mostRuns) ⌝ }
+{
+    let none = Runs::new();
+    let first = search_area(p, align, none);
+    let answer = first.answer;
+    let Answer::Done = answer else {
+        return first;
+    };
+    let Found::Entry(e) = found else {
+        return first;
+    };
+    let runs = first.runs;
+    let end = free::wide(e.starting_lba) + free::wide(e.sectors);
+    search_area(q.to(end), align, runs)
+}
+
+// The positions of a header's primary partitions.
+fn points_of(h: MBRHeader, disk: u32) -> Points
+    ensures { λ r. ⌜ (view r ≡ positions 0 disk (primaryZones (primaries h))) × (r .count ≤ 10) ⌝ }
+{
+    let one = h.partition_1;
+    let two = h.partition_2;
+    let three = h.partition_3;
+    let four = h.partition_4;
+    primary_points(one, two, three, four, disk)
+}
+
+// Free runs of a table, as the crate finds them.
+pub fn find_free_sectors(t: MBR) -> FreeAnswer
+    ensures { λ r. ⌜ Told r (free t) × (r .runs .count ≤ mostRuns) ⌝ }
+{
+    let count = t.count;
+    if LOGICALS < count {
+        return free::refused(6);
+    }
+    let align = t.align;
+    if align == 0 {
+        return free::refused(7);
+    }
+    let h = t.header;
+    let ls = t.logical_partitions;
+    let found = h.get_extended_partition();
+    let q = logical_points(free::begin_of(found), ls, count);
+    free_in(align, points_of(h, t.disk_size), found, q)
+}

@@ -1,0 +1,91 @@
+use lib.ListN.{length, drop}
+use Prim.Native.Nat.{_+_, _-_, _≤_}
+use mathlib.Core.Path.{_≡_, refl, sym, _∙_}
+use native.Mathlib.Omega.{arith}
+use Rattle.extract.proofs.Good.{good-few, good-long}
+use Rattle.plan.specs.Plan.{planned, slotsOver}
+use Rattle.block.specs.Block.{tableIn}
+use Rattle.settled.specs.Settle.{settledIn}
+use Rattle.settled.proofs.Laws.{held-long, settled-long}
+use Rattle.sources.specs.Sources.{placesFrom, slotsOf}
+use Rattle.sources.proofs.Laws.{slots-end, plan-start, plan-turn}
+use borrow.Author.Needs.{needs}
+use Rattle.newplan.proofs.plan_for.Statement.{statement}
+use Rattle.newplan.proofs.plan_for.Tie as tie
+
+abbrev Inv-loop : tie.InvT-loop
+Inv-loop x n b first-at m p₀ i₀ p i = (i ≤ m) × (p .count ≤ 65 + i) × (slotsOf x (settledIn (tableIn b) first-at) ≡ slotsOver (placesFrom (65 + i) (drop i (settledIn (tableIn b) first-at))) (planned p))
+
+abbrev μ-loop : tie.MeasureT-loop
+μ-loop x n b first-at m p₀ i₀ p i = m - i
+
+long : (s : tie.Start Inv-loop μ-loop) → length (settledIn (tableIn (s .args .b .now)) (s .args .first-at)) ≡ s .args .m
+long s = settled-long (tableIn (s .args .b .now)) (s .args .first-at) (held-long (s .args .b .now) (s .pre .2)) ∙ sym (s .pre .3)
+
+old-requires : tie.Need-old-requires Inv-loop μ-loop
+old-requires c κs =
+    let s = c .before .before in
+    (omega (arith, good-few (s .args .x .now) (s .pre .1), s .pre .0), omega (arith, good-long (s .args .x .now) (s .pre .1), s .pre .0))
+
+lay-requires : tie.Need-lay-requires Inv-loop μ-loop
+lay-requires c κs =
+    let s = c .before .before .before in
+    omega (arith, good-few (s .args .x .now) (s .pre .1), s .pre .0, c .old .ensures .1)
+
+loop-holds : tie.Need-loop-holds Inv-loop μ-loop
+loop-holds c =
+    let s = c .before .before .before .before in
+    let a = s .args in
+    let k = good-few (a .x .now) (s .pre .1) in
+    (search needs, omega (arith, c .lay .ensures .1, c .before .old .ensures .1, s .pre .0), plan-start (a .x .now) (settledIn (tableIn (a .b .now)) (a .first-at)) (a .n) _ _ (s .pre .0) (c .before .old .ensures .0) (c .lay .ensures .0))
+
+place-requires : tie.Need-place-requires Inv-loop μ-loop
+place-requires c κs =
+    let s = c .before .before .before .before .before .before in
+    (s .pre .2, omega (arith, c .loop-test .taken, s .pre .3))
+
+add-t12 : tie.Need-add-t12 Inv-loop μ-loop
+add-t12 c = search needs
+
+lay-requires-2 : tie.Need-lay-requires-2 Inv-loop μ-loop
+lay-requires-2 c κs = search needs
+
+add-i : tie.Need-add-i Inv-loop μ-loop
+add-i c = search needs
+
+loop-less : tie.Need-loop-less Inv-loop μ-loop
+loop-less c = search needs
+
+loop-again : tie.Need-loop-again Inv-loop μ-loop
+loop-again c =
+    let s = c .before .before .before .before .before .before .before .before in
+    let a = s .args in
+    let l = c .before .before .before .loop in
+    let ls = settledIn (tableIn (a .b .now)) (a .first-at) in
+    (search needs, omega (arith, c .lay2 .ensures .1, l .inv .1), l .inv .2 ∙ plan-turn ls (l .i) _ _ _ _ (omega (arith, long s, c .before .before .loop-test .taken)) (sym (c .before .place .ensures)) refl (c .lay2 .ensures .0))
+
+returns : tie.Need-returns Inv-loop μ-loop
+returns c =
+    let s = c .before .before .before .before .before .before in
+    let a = s .args in
+    let l = c .before .loop in
+    let i : l .i ≡ a .m = omega (arith, l .inv .0, c .loop-test .left) in
+    let ls = settledIn (tableIn (a .b .now)) (a .first-at) in
+    (sym (l .inv .2 ∙ slots-end 65 (l .i) ls (planned (l .p)) (i ∙ sym (long s))), omega (arith, l .inv .1, s .pre .3, s .pre .2 .1))
+
+pub plan-for-spec : {M : Type 1} → statement M
+plan-for-spec =
+    tie.close
+    (tie.spec
+    Inv-loop
+    μ-loop
+    old-requires
+    lay-requires
+    loop-holds
+    place-requires
+    add-t12
+    lay-requires-2
+    add-i
+    loop-less
+    loop-again
+    returns)

@@ -1,0 +1,74 @@
+// Tables for the disk of an extract: a new one, and a given one put on it.
+use base::Answer;
+use extract::Header;
+use lookup::TableAnswer;
+use mbr::MBRHeader;
+use table::LogicalPartition;
+use table::MBR;
+ghost use mathlib.Core.Path.{_≡_};
+ghost use Rattle.base.specs.Said.{refusal, failure, valueOr};
+ghost use Rattle.newtable.specs.Disk.{newTable, newSays, noNew, updateSays};
+
+fn new_table(size: u32, disk: u32, disk_signature: [u8; 4]) -> MBR
+    ensures { λ r. ⌜ r ≡ newTable size disk «disk_signature» ⌝ }
+{
+    let header = MBRHeader::new(disk_signature);
+    let none = LogicalPartition::empty();
+    let slots = [none; table::LOGICALS];
+    MBR {
+        sector_size: size,
+        header: header,
+        logical_partitions: slots,
+        count: 0,
+        align: MBR::DEFAULT_ALIGN,
+        cylinders: 0,
+        heads: 0,
+        sectors: 0,
+        disk_size: disk,
+    }
+}
+
+// A new table for the disk of an extract: 1.
+pub fn new_from(x: &[u8], disk_signature: [u8; 4]) -> TableAnswer
+    ensures { λ r. ⌜ refusal (r .answer) ≡ failure (newSays (now (x .entry)) «disk_signature») ⌝ }
+    ensures { λ r. ⌜ r .table ≡ valueOr (noNew «disk_signature») (newSays (now (x .entry)) «disk_signature») ⌝ }
+{
+    match extract::check(x) {
+        Header::Refused(r) => TableAnswer {
+            answer: Answer::Refused(r.number),
+            table: new_table(0, 0, disk_signature),
+        },
+        Header::Good(e) => TableAnswer {
+            answer: Answer::Done,
+            table: new_table(e.sector_size, e.disk_size, disk_signature),
+        },
+    }
+}
+
+// Puts a table on the disk of an extract: 6, 1.
+pub fn update_from(t: MBR, x: &[u8]) -> TableAnswer
+    ensures { λ r. ⌜ refusal (r .answer) ≡ failure (updateSays t (now (x .entry))) ⌝ }
+    ensures { λ r. ⌜ r .table ≡ valueOr t (updateSays t (now (x .entry))) ⌝ }
+{
+    if table::LOGICALS < t.count {
+        return TableAnswer {
+            answer: Answer::Refused(6),
+            table: t,
+        };
+    }
+    match extract::check(x) {
+        Header::Refused(r) => TableAnswer {
+            answer: Answer::Refused(r.number),
+            table: t,
+        },
+        Header::Good(e) => {
+            let mut u = t;
+            u.sector_size = e.sector_size;
+            u.disk_size = e.disk_size;
+            TableAnswer {
+                answer: Answer::Done,
+                table: u,
+            }
+        }
+    }
+}

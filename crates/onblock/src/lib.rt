@@ -1,0 +1,1 @@
+// A table in a lent block, for the calls on it: definitions and laws alone.

@@ -1,0 +1,70 @@
+use lib.ListN.{length, length-map}
+use Rattle.bysector.proofs.Search.{found-logical}
+use Rattle.removeat.specs.RemoveAt.{removeAtSays}
+use Rattle.bysector.specs.Find.{spotSaid}
+use borrow.Author.Tests.{lt-ltb, le-ltb}
+use mathlib.Core.Path.{_≡_, sym, ap, _∙_}
+use borrow.Author.Needs.{needs}
+use Rattle.removeat.proofs.remove_at_sector.Statement.{statement}
+use Rattle.removeat.proofs.remove_at_sector.Tie as tie
+
+find-at-sector-requires : tie.Need-find-at-sector-requires
+find-at-sector-requires c κs = search needs
+
+enum-known-k : tie.Need-enum-known-k
+enum-known-k c = search needs
+
+enum-told : tie.Need-enum-told
+enum-told c = search needs
+
+enum-known-n : tie.Need-enum-known-n
+enum-known-n c = search needs
+
+without-primary-requires : tie.Need-without-primary-requires
+without-primary-requires c κs = search needs
+
+returns : tie.Need-returns
+unfolding removeAtSays
+returns c =
+    let f = sym (c .before .before .before .before .before .find-at-sector .ensures) ∙ ap spotSaid (c .before .before .before .n .given .1) in
+    (rw f, c .without-primary .ensures ∙ rw (f, lt-ltb _ _ (c .before .if1 .taken)))
+
+shifted-requires : tie.Need-shifted-requires
+shifted-requires c κs =
+    let f = sym (c .before .before .before .before .find-at-sector .ensures) ∙ ap spotSaid (c .before .before .n .given .1) in
+    let s = c .before .before .before .before .before in
+    let l : length (s .args .t .«logical_partitions») ≡ 24 = sym (length-map (s .args .t .«logical_partitions») _) ∙ s .good .0 .1 .1 .1 .1 .0 .1 .0 .1 in
+    found-logical (s .args .t) (s .args .sector) _ l f (c .if1 .left)
+
+returns-2 : tie.Need-returns-2
+unfolding removeAtSays
+returns-2 c =
+    let f = sym (c .before .before .before .find-at-sector .ensures) ∙ ap spotSaid (c .before .k .given .1) in
+    (rw f, rw f)
+
+returns-3 : tie.Need-returns-3
+unfolding removeAtSays
+returns-3 c =
+    let f = sym (c .before .before .find-at-sector .ensures) ∙ ap spotSaid (c .enum-told .given .1) in
+    (rw f, rw f)
+
+returns-4 : tie.Need-returns-4
+unfolding removeAtSays
+returns-4 c =
+    let f = sym (c .before .before .before .before .before .find-at-sector .ensures) ∙ ap spotSaid (c .before .before .before .n .given .1) in
+    (rw f, c .shifted .ensures ∙ rw (f, le-ltb _ _ (c .before .if1 .left)))
+
+pub remove-at-sector-spec : {M : Type 1} → statement M
+remove-at-sector-spec =
+    tie.close
+    (tie.spec
+    find-at-sector-requires
+    enum-known-k
+    enum-told
+    enum-known-n
+    without-primary-requires
+    returns
+    shifted-requires
+    returns-2
+    returns-3
+    returns-4)

@@ -1,0 +1,55 @@
+use Rattle.slotdrop.proofs.Down.{dropped}
+use borrow.Author.Needs.{needs}
+use Rattle.slotdrop.proofs.drop_slot.Statement.{statement}
+use Rattle.slotdrop.proofs.drop_slot.Tie as tie
+
+sub-put32 : tie.Need-sub-put32
+sub-put32 c = search needs
+
+cast-put32 : tie.Need-cast-put32
+cast-put32 c = search needs
+
+put32-requires : tie.Need-put32-requires
+put32-requires c κs = search needs
+
+mul-move-down : tie.Need-mul-move-down
+mul-move-down c = search needs
+
+add-move-down : tie.Need-add-move-down
+add-move-down c = search needs
+
+sub-move-down : tie.Need-sub-move-down
+sub-move-down c = search needs
+
+sub-move-down-2 : tie.Need-sub-move-down-2
+sub-move-down-2 c = search needs
+
+mul-move-down-2 : tie.Need-mul-move-down-2
+mul-move-down-2 c = search needs
+
+move-down-requires : tie.Need-move-down-requires
+move-down-requires c κs = search needs
+
+same-length : tie.Need-same-length
+same-length c = search needs
+
+returns : tie.Need-returns
+returns c =
+    let s = c .before .before .before .before .before .before .before .before .before in
+    dropped (s .args .b .now) _ _ (s .args .n) (s .args .k) (s .pre .0) (s .pre .1) (s .pre .2) (c .before .before .before .before .before .before .put32 .ensures) (c .before .before .move-down .ensures)
+
+pub drop-slot-spec : {M : Type 1} → statement M
+drop-slot-spec =
+    tie.close
+    (tie.spec
+    sub-put32
+    cast-put32
+    put32-requires
+    mul-move-down
+    add-move-down
+    sub-move-down
+    sub-move-down-2
+    mul-move-down-2
+    move-down-requires
+    same-length
+    returns)

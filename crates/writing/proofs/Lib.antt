@@ -1,0 +1,4 @@
+pub mod Told
+pub mod Over
+pub mod Ranges
+pub mod Said

@@ -38,11 +38,14 @@ pub fn is_within(sector: u32, e: MBRPartitionEntry) -> Holds
     if end <= sector as u64 {
         return Holds::No;
     }
+    if 4294967296 <= end {
+        if e.sys == 0 {
+            return Holds::No;
+        }
+        return Holds::Refused(7);
+    }
     if e.sys == 0 {
         return Holds::No;
-    }
-    if 4294967296 <= end {
-        return Holds::Refused(7);
     }
     Holds::Yes
 }

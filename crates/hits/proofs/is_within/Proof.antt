@@ -49,7 +49,11 @@ returns-5 : tie.Need-returns-5
 unfolding holdsSays
 returns-5 c = search tests
 
+returns-6 : tie.Need-returns-6
+unfolding holdsSays
+returns-6 c = search tests
+
 pub is-within-spec : {M : Type 1} → statement M
 is-within-spec =
     tie.close
-    (tie.spec returns cast-end cast-end-2 add-end returns-2 returns-3 returns-4 returns-5)
+    (tie.spec returns cast-end cast-end-2 add-end returns-2 returns-3 returns-4 returns-5 returns-6)

@@ -2,6 +2,7 @@
 //!
 //!     bench time      nanoseconds a call, medians, both sides in turn
 //!     bench calls     one measured call each, for callgrind; prints their labels in this order
+//!     bench where     the address of what is measured there, for an emulator that writes a line for each instruction
 //!     bench stack     bytes of stack that a call uses
 //!     bench copies    large copies in one call (built with the feature `copies`)
 
@@ -32,10 +33,11 @@ fn main() {
     match std::env::args().nth(1).as_deref() {
         Some("time") => lines.iter_mut().for_each(time),
         Some("calls") => lines.iter_mut().for_each(calls),
+        Some("where") => println!("{:p}", measured_call as *const ()),
         Some("stack") => lines.iter_mut().for_each(deep),
         #[cfg(feature = "copies")]
         Some("copies") => lines.iter_mut().for_each(copied),
-        _ => panic!("usage: bench time | calls | stack | copies"),
+        _ => panic!("usage: bench time | calls | where | stack | copies"),
     }
 }
 

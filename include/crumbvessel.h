@@ -8,8 +8,8 @@
  * writes overlap nothing else that the same call is lent. No function keeps an address or allocates. A refusal leaves
  * every lent byte as it was.
  *
- * A block is lent whole, CV_BLOCK bytes, a header CV_HEADER, a slot CV_SLOT; any other length is CV_BLOCK_LENGTH. An
- * extract or an output of length 0 is allowed and refused (1, 19, 101).
+ * A block is lent whole, CV_BLOCK bytes, a header CV_HEADER, a lone slot CV_LONE_SLOT; any other length is
+ * CV_BLOCK_LENGTH. An extract or an output of length 0 is allowed and refused (1, 19, 101).
  */
 #ifndef CRUMBVESSEL_H
 #define CRUMBVESSEL_H
@@ -50,7 +50,7 @@ enum cv_refusal {
     CV_BAD_REQUEST = 23,       /* careful push of type 0 or extended, or with more than 63 sectors in a geometry */
     /* none of the library's own: */
     CV_BLOCK_LENGTH = 101,     /* a lent block, header or slot is not of its length */
-    CV_BLOCK_TAG = 102,        /* a tag in a block is neither 0 nor 1 */
+    CV_BLOCK_TAG = 102,        /* a tag in a block is above 3 */
     CV_NOTHING = 255           /* no refusal: there is no such value */
 };
 
@@ -79,7 +79,7 @@ static inline uint8_t cv_sector(uint64_t answer) { return (uint8_t)answer; }
 #define CV_RUNS 240
 
 /* A table as a block, all numbers little-endian. Front: */
-#define CV_BLOCK 12108
+#define CV_BLOCK 12084
 #define CV_SECTOR_SIZE 0 /* u32 */
 #define CV_DISK_SIZE 4   /* u32, sectors */
 #define CV_ALIGN 8       /* u32 */
@@ -95,13 +95,21 @@ static inline uint8_t cv_sector(uint64_t answer) { return (uint8_t)answer; }
 #define CV_BOOT_SIGNATURE 538                /* 2 bytes, 55 AA */
 #define CV_HEADER 520                        /* bytes of a header: those from CV_CODE on */
 /* Logical partitions, slot i, 0 to 23; those from the count on are unused: */
-#define CV_LOGICAL(i) (540 + 482 * (size_t)(i)) /* entry */
+#define CV_LOGICAL(i) (540 + 480 * (size_t)(i)) /* entry */
 #define CV_EBR_LBA 18                           /* in a slot: u32, absolute */
-#define CV_EBR_SECTORS 22                       /* tag, 0 absent or 1 present; u32 */
-#define CV_EBR_FIRST 27                         /* address */
-#define CV_EBR_LAST 31                          /* tag; address */
-#define CV_EBR_CODE 36                          /* 446 bytes */
-#define CV_SLOT 482                             /* bytes of a slot */
+#define CV_EBR_SECTORS 22                       /* u32, may be absent */
+#define CV_EBR_FIRST 26                         /* address */
+#define CV_EBR_LAST 30                          /* address, may be absent */
+#define CV_EBR_CODE 34                          /* 446 bytes */
+#define CV_SLOT 480                             /* bytes of a slot */
+/* Behind the slots their tags: that of slot i is the sum of what is there. The bytes of an absent value are zeros when
+ * written and ignored when read. */
+#define CV_TAG(i) (12060 + (size_t)(i)) /* u8, 0 to 3 */
+#define CV_TAG_EBR_SECTORS 1
+#define CV_TAG_EBR_LAST 2
+/* A slot alone: its CV_SLOT bytes, then its tag. */
+#define CV_LONE_TAG 480
+#define CV_LONE_SLOT 481
 /* In an entry of CV_ENTRY bytes: flag, first address, type, last address, start, sectors. An address: cylinder u16, head,
  * sector. */
 #define CV_ENTRY 18
@@ -158,11 +166,11 @@ uint64_t cv_careful_remove(const uint8_t *x, size_t x_length, uint32_t number, u
 /* The table that an extract reads as, as a block: 0; 1 to 7 of reading, 101. */
 uint8_t cv_read(const uint8_t *x, size_t x_length, uint8_t *out, size_t out_length);
 /* push on the table of a block, in place: the new partition's number; 101, 6, 102, push's. Its slot, the first unused one,
- * and the count are written, and no other byte. */
+ * the slot's tag and the count are written, and no other byte. */
 uint64_t cv_push(uint8_t *block, size_t block_length, uint8_t type, uint32_t start, uint32_t sectors);
 /* Removal of logical partition `number` from the table of a block, in place: 0; 101, 6, 102, 17. The slots behind slot
- * `number - 5` move down by one, the last one's bytes stay where they were too, the count falls by one; no other byte is
- * written. */
+ * `number - 5` and their tags move down by one, the last one's bytes stay where they were too, the count falls by one; no
+ * other byte is written. */
 uint8_t cv_remove(uint8_t *block, size_t block_length, uint32_t number);
 
 /* libabiedit.a */
@@ -213,8 +221,8 @@ uint64_t cv_get_maximum_partition_size_for(const uint8_t *block, size_t block_le
 /* libabiwrite.a */
 
 /* Writes the table of a block over an extract, the new extract to `out`: its length, at most CV_EXTRACT(64); and the block
- * becomes that of the table as writing leaves it: its slots below the count are written, and no other byte of it. 101, 6,
- * 102 of the block; 1, 3, 4, 2, 7, 13, 14, 18, 22, 19. */
+ * becomes that of the table as writing leaves it: its slots below the count and their tags are written, and no other byte
+ * of it. 101, 6, 102 of the block; 1, 3, 4, 2, 7, 13, 14, 18, 22, 19. */
 uint64_t cv_write_into(uint8_t *block, size_t block_length, const uint8_t *x, size_t x_length, uint8_t *out,
                        size_t out_length);
 
@@ -228,8 +236,8 @@ uint64_t cv_write_header(const uint8_t *header, size_t header_length, const uint
 
 /* libabichs.a */
 
-/* update_chs on the logical partition in a slot of CV_SLOT bytes, in place: its four addresses; bytes behind an absent tag
- * become zero. 0; 101, 102, 7, 13, 14. */
+/* update_chs on the logical partition in a lone slot of CV_LONE_SLOT bytes, in place: its four addresses; the last link
+ * address is there afterwards if the link sectors are, the bytes of an absent value become zero. 0; 101, 102, 7, 13, 14. */
 uint8_t cv_update_chs(uint8_t *slot, size_t slot_length, uint16_t cylinders, uint8_t heads, uint8_t sectors);
 
 #ifdef __cplusplus

@@ -4,6 +4,10 @@
 
 #include "crumbvessel.h"
 
+_Static_assert(CV_CODE + CV_HEADER == CV_LOGICAL(0) && CV_EBR_CODE + 446 == CV_SLOT, "the header, then slots");
+_Static_assert(CV_LOGICAL(24) == CV_TAG(0) && CV_TAG(24) == CV_BLOCK, "24 slots, then 24 tags");
+_Static_assert(CV_LONE_TAG == CV_SLOT && CV_LONE_SLOT == CV_SLOT + 1, "a slot, then its tag");
+
 static int failed, tried;
 
 static void is(int line, uint64_t got, uint64_t wanted)
@@ -17,6 +21,7 @@ static void is(int line, uint64_t got, uint64_t wanted)
 
 #define IS(got, wanted) is(__LINE__, (uint64_t)(got), (uint64_t)(wanted))
 #define REFUSED(number) ((uint64_t)(number) << 32)
+#define BOTH (CV_TAG_EBR_SECTORS + CV_TAG_EBR_LAST)
 
 static void put32(uint8_t *p, uint32_t v)
 {
@@ -175,7 +180,8 @@ static void tables(void)
     IS(get32(t + CV_PRIMARY(0) + CV_ENTRY_SECTORS), 16384);
     IS(get32(t + CV_LOGICAL(0) + CV_ENTRY_START), 6144);
     IS(get32(t + CV_LOGICAL(0) + CV_EBR_LBA), 4096);
-    IS(t[CV_LOGICAL(0) + CV_EBR_SECTORS], 0);
+    IS(get32(t + CV_LOGICAL(0) + CV_EBR_SECTORS), 0);
+    IS(all(t + CV_LOGICAL(1), CV_BLOCK - CV_LOGICAL(1), 0), true);
     IS(cv_find_at_sector(t, sizeof t, 6144), 5);
     IS(cv_find_at_sector(t, sizeof t, 8191), 5);
     IS(cv_find_at_sector(t, sizeof t, 8192), REFUSED(CV_NOTHING));
@@ -186,20 +192,49 @@ static void tables(void)
     IS(get32(t + CV_COUNT), 2);
     IS(memcmp(t, u, CV_COUNT), 0);
     IS(memcmp(t + CV_COUNT + 4, u + CV_COUNT + 4, CV_LOGICAL(1) - CV_COUNT - 4), 0);
-    IS(memcmp(t + CV_LOGICAL(2), u + CV_LOGICAL(2), CV_BLOCK - CV_LOGICAL(2)), 0);
+    IS(memcmp(t + CV_LOGICAL(2), u + CV_LOGICAL(2), CV_TAG(1) - CV_LOGICAL(2)), 0);
+    IS(memcmp(t + CV_TAG(2), u + CV_TAG(2), CV_BLOCK - CV_TAG(2)), 0);
     IS(slot[CV_ENTRY_TYPE], 0x83);
     IS(get32(slot + CV_ENTRY_START), 10240);
     IS(get32(slot + CV_ENTRY_SECTORS), 2048);
     IS(get32(slot + CV_EBR_LBA), 8192);
-    IS(slot[CV_EBR_SECTORS], 1);
-    IS(get32(slot + CV_EBR_SECTORS + 1), 4096);
+    IS(get32(slot + CV_EBR_SECTORS), 4096);
+    IS(all(slot + CV_EBR_FIRST, CV_SLOT - CV_EBR_FIRST, 0), true);
+    IS(t[CV_TAG(1)], BOTH);
     memcpy(u, t, sizeof u);
     IS(cv_remove(t, sizeof t, 5), CV_DONE);
     IS(get32(t + CV_COUNT), 1);
     IS(memcmp(t, u, CV_COUNT), 0);
     IS(memcmp(t + CV_COUNT + 4, u + CV_COUNT + 4, CV_LOGICAL(0) - CV_COUNT - 4), 0);
     IS(memcmp(t + CV_LOGICAL(0), u + CV_LOGICAL(1), CV_SLOT), 0);
-    IS(memcmp(t + CV_LOGICAL(1), u + CV_LOGICAL(1), CV_BLOCK - CV_LOGICAL(1)), 0);
+    IS(memcmp(t + CV_LOGICAL(1), u + CV_LOGICAL(1), CV_TAG(0) - CV_LOGICAL(1)), 0);
+    IS(t[CV_TAG(0)], BOTH);
+    IS(memcmp(t + CV_TAG(1), u + CV_TAG(1), CV_BLOCK - CV_TAG(1)), 0);
+}
+
+/* Four logical partitions, a tag of each kind; the second and the last are removed. */
+static void tags(void)
+{
+    static uint8_t t[CV_BLOCK], u[CV_BLOCK];
+    IS(cv_read(k, sizeof k, t, sizeof t), CV_DONE);
+    for (uint32_t i = 1; i < 4; i++) {
+        IS(cv_push(t, sizeof t, 0x83, 4096 + 4096 * i, 4096), 5 + i);
+        IS(t[CV_TAG(i)], BOTH);
+    }
+    memcpy(t + CV_TAG(0), "\0\1\2\3\2\1", 6);
+    t[CV_TAG(23)] = BOTH;
+    memcpy(u, t, sizeof u);
+    IS(cv_remove(t, sizeof t, 6), CV_DONE);
+    IS(get32(t + CV_COUNT), 3);
+    IS(memcmp(t + CV_COUNT + 4, u + CV_COUNT + 4, CV_LOGICAL(1) - CV_COUNT - 4), 0);
+    IS(memcmp(t + CV_LOGICAL(1), u + CV_LOGICAL(2), 2 * CV_SLOT), 0);
+    IS(memcmp(t + CV_LOGICAL(3), u + CV_LOGICAL(3), CV_TAG(0) - CV_LOGICAL(3)), 0);
+    IS(memcmp(t + CV_TAG(0), "\0\2\3\3\2\1", 6), 0);
+    IS(memcmp(t + CV_TAG(6), u + CV_TAG(6), CV_BLOCK - CV_TAG(6)), 0);
+    memcpy(u, t, sizeof u);
+    IS(cv_remove(t, sizeof t, 7), CV_DONE);
+    IS(get32(t + CV_COUNT), 2);
+    IS(memcmp(t + CV_COUNT + 4, u + CV_COUNT + 4, CV_BLOCK - CV_COUNT - 4), 0);
 }
 
 static void table_refusals(void)
@@ -213,7 +248,16 @@ static void table_refusals(void)
     IS(cv_remove(t, sizeof t, 6), CV_NO_SUCH_LOGICAL);
     IS(cv_remove(t, sizeof t, 4), CV_NO_SUCH_LOGICAL);
     IS(cv_remove(t, 0, 5), CV_BLOCK_LENGTH);
-    t[CV_LOGICAL(23) + CV_EBR_LAST] = u[CV_LOGICAL(23) + CV_EBR_LAST] = 2;
+    for (int i = 0; i < 24; i++) {
+        t[CV_TAG(i)] = u[CV_TAG(i)] = BOTH;
+        IS(cv_push(t, sizeof t, 0x83, 8192, 2048), REFUSED(CV_TOO_FEW_SECTORS));
+        IS(cv_remove(t, sizeof t, 6), CV_NO_SUCH_LOGICAL);
+        t[CV_TAG(i)] = u[CV_TAG(i)] = 4;
+        IS(cv_push(t, sizeof t, 0x83, 8192, 4096), REFUSED(CV_BLOCK_TAG));
+        IS(cv_remove(t, sizeof t, 5), CV_BLOCK_TAG);
+        t[CV_TAG(i)] = u[CV_TAG(i)] = 0;
+    }
+    t[CV_TAG(0)] = u[CV_TAG(0)] = 255;
     IS(cv_push(t, sizeof t, 0x83, 8192, 4096), REFUSED(CV_BLOCK_TAG));
     IS(cv_remove(t, sizeof t, 5), CV_BLOCK_TAG);
     t[CV_COUNT] = u[CV_COUNT] = 25;
@@ -254,7 +298,9 @@ static void looks(void)
     IS(cv_check_geometry(t, sizeof t), 0);
     t[CV_LOGICAL(0) + CV_ENTRY_TYPE] = 0;
     IS(cv_is_sound(t, sizeof t), 0);
-    t[CV_LOGICAL(23) + CV_EBR_LAST] = 2;
+    t[CV_TAG(0)] = t[CV_TAG(23)] = BOTH;
+    IS(cv_check_geometry(t, sizeof t), 0);
+    t[CV_TAG(23)] = 4;
     IS(cv_check_geometry(t, sizeof t), REFUSED(CV_BLOCK_TAG));
     IS(cv_get(t, sizeof t, 5, out, sizeof out), CV_BLOCK_TAG);
     t[CV_COUNT] = 25;
@@ -392,14 +438,17 @@ static void headers(void)
 static void slots(void)
 {
     static uint8_t t[CV_BLOCK];
-    uint8_t s[CV_SLOT];
+    uint8_t s[CV_LONE_SLOT], before[CV_LONE_SLOT];
     IS(cv_read(k, sizeof k, t, sizeof t), CV_DONE);
-    memcpy(s, t + CV_LOGICAL(0), sizeof s);
-    IS(cv_update_chs(s, sizeof s - 1, 1023, 255, 63), CV_BLOCK_LENGTH);
+    memcpy(s, t + CV_LOGICAL(0), CV_SLOT);
+    s[CV_LONE_TAG] = t[CV_TAG(0)];
+    memcpy(before, s, sizeof s);
+    IS(cv_update_chs(s, CV_SLOT, 1023, 255, 63), CV_BLOCK_LENGTH);
+    IS(cv_update_chs(s, 0, 1023, 255, 63), CV_BLOCK_LENGTH);
     IS(cv_update_chs(s, sizeof s, 1023, 0, 63), CV_ARITHMETIC);
     IS(cv_update_chs(s, sizeof s, 10, 2, 3), CV_CYLINDER_1023);
     IS(cv_update_chs(s, sizeof s, 10, 2, 60), CV_CYLINDER_DISK);
-    IS(memcmp(s, t + CV_LOGICAL(0), sizeof s), 0);
+    IS(memcmp(s, before, sizeof s), 0);
     IS(cv_update_chs(s, sizeof s, 1023, 255, 63), CV_DONE);
     IS(memcmp(s + CV_ENTRY_FIRST, "\0\0\x61\x22", 4), 0);
     IS(memcmp(s + CV_ENTRY_LAST, "\0\0\x82\x02", 4), 0);
@@ -407,13 +456,27 @@ static void slots(void)
     memset(s + CV_ENTRY_FIRST, 0, 4);
     memset(s + CV_ENTRY_LAST, 0, 4);
     memset(s + CV_EBR_FIRST, 0, 4);
-    IS(memcmp(s, t + CV_LOGICAL(0), sizeof s), 0);
-    s[CV_EBR_SECTORS] = 1;
-    put32(s + CV_EBR_SECTORS + 1, 4096);
+    IS(memcmp(s, before, sizeof s), 0);
+    /* with link sectors the link has a last address too */
+    put32(s + CV_EBR_SECTORS, 4096);
+    s[CV_LONE_TAG] = CV_TAG_EBR_SECTORS;
     IS(cv_update_chs(s, sizeof s, 1023, 255, 63), CV_DONE);
-    IS(memcmp(s + CV_EBR_LAST, "\1\0\0\x82\x02", 5), 0);
-    s[CV_EBR_LAST] = 2;
+    IS(get32(s + CV_EBR_SECTORS), 4096);
+    IS(memcmp(s + CV_EBR_LAST, "\0\0\x82\x02", 4), 0);
+    IS(s[CV_LONE_TAG], BOTH);
+    memcpy(before, s, sizeof s);
+    IS(cv_update_chs(s, sizeof s, 1023, 255, 63), CV_DONE);
+    IS(memcmp(s, before, sizeof s), 0);
+    /* and without them none */
+    s[CV_LONE_TAG] = CV_TAG_EBR_LAST;
+    IS(cv_update_chs(s, sizeof s, 1023, 255, 63), CV_DONE);
+    IS(all(s + CV_EBR_SECTORS, 4, 0), true);
+    IS(all(s + CV_EBR_LAST, 4, 0), true);
+    IS(s[CV_LONE_TAG], 0);
+    s[CV_LONE_TAG] = 4;
+    memcpy(before, s, sizeof s);
     IS(cv_update_chs(s, sizeof s, 1023, 0, 63), CV_BLOCK_TAG);
+    IS(memcmp(s, before, sizeof s), 0);
 }
 
 /* push on K, written: it lists as after the careful push, and the table afterwards is the one that was pushed. */
@@ -441,14 +504,17 @@ static void writing(void)
     IS(memcmp(u, v, sizeof v), 0);
     /* the first logical partition's EBR is put at X, without link sectors */
     IS(cv_remove(u, sizeof u, 5), CV_DONE);
-    IS(u[CV_LOGICAL(0) + CV_EBR_SECTORS], 1);
+    IS(u[CV_TAG(0)], BOTH);
     memcpy(v, u, sizeof v);
     IS(cv_write_into(u, sizeof u, k, sizeof k, out, sizeof out), CV_EXTRACT(2));
     IS(get32(u + CV_LOGICAL(0) + CV_EBR_LBA), 4096);
-    IS(all(u + CV_LOGICAL(0) + CV_EBR_SECTORS, 5, 0), true);
-    IS(all(u + CV_LOGICAL(0) + CV_EBR_LAST, 5, 0), true);
+    IS(all(u + CV_LOGICAL(0) + CV_EBR_SECTORS, 4, 0), true);
+    IS(all(u + CV_LOGICAL(0) + CV_EBR_LAST, 4, 0), true);
+    IS(u[CV_TAG(0)], 0);
     IS(memcmp(u, v, CV_LOGICAL(0) + CV_EBR_LBA), 0);
-    IS(memcmp(u + CV_LOGICAL(0) + CV_EBR_CODE, v + CV_LOGICAL(0) + CV_EBR_CODE, CV_BLOCK - CV_LOGICAL(0) - CV_EBR_CODE), 0);
+    IS(memcmp(u + CV_LOGICAL(0) + CV_EBR_CODE, v + CV_LOGICAL(0) + CV_EBR_CODE, 446), 0);
+    IS(memcmp(u + CV_LOGICAL(1), v + CV_LOGICAL(1), CV_TAG(0) - CV_LOGICAL(1)), 0);
+    IS(memcmp(u + CV_TAG(1), v + CV_TAG(1), CV_BLOCK - CV_TAG(1)), 0);
 }
 
 int main(void)
@@ -459,6 +525,7 @@ int main(void)
     careful_refusals();
     careful_changes();
     tables();
+    tags();
     table_refusals();
     looks();
     edits();

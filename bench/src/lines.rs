@@ -9,10 +9,11 @@ const ALIGN: u32 = 2048;
 /// The extended partition's start.
 const X: u32 = 2 * ALIGN;
 const GEOMETRY: (u16, u8, u8) = (1023, 255, 63);
-/// In a block: the count, the first slot, a slot's bytes.
+/// In a block: the count, the first slot, a slot's bytes, the first tag.
 const COUNT: usize = 12;
 const LOGICAL: usize = 540;
-const SLOT: usize = 482;
+const SLOT: usize = 480;
+const TAGS: usize = 12060;
 
 pub struct Line {
     pub operation: &'static str,
@@ -196,8 +197,8 @@ fn push(n: u32, sound: bool) -> Line {
 fn remove(n: u32) -> Line {
     let mut t = table(n);
     let mut b = block(&t);
-    let first = b[LOGICAL..LOGICAL + SLOT].to_vec();
-    let last = LOGICAL + SLOT * (n as usize - 1);
+    let (first, tag) = (b[LOGICAL..LOGICAL + SLOT].to_vec(), b[TAGS]);
+    let (last, last_tag) = (LOGICAL + SLOT * (n as usize - 1), TAGS + n as usize - 1);
     Line {
         operation: "remove",
         input: input(n, true),
@@ -205,6 +206,8 @@ fn remove(n: u32) -> Line {
             let answer = ours::remove(&mut b, 5);
             b.copy_within(LOGICAL..last, LOGICAL + SLOT);
             b[LOGICAL..LOGICAL + SLOT].copy_from_slice(&first);
+            b.copy_within(TAGS..last_tag, TAGS + 1);
+            b[TAGS] = tag;
             b[COUNT..COUNT + 4].copy_from_slice(&n.to_le_bytes());
             answer
         }),

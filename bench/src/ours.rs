@@ -2,7 +2,7 @@
 
 use crate::c::*;
 
-pub const BLOCK: usize = 12108;
+pub const BLOCK: usize = 12084;
 pub const STORES: usize = 1032;
 
 pub fn read(x: &[u8], out: &mut [u8]) -> u64 {

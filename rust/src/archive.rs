@@ -5,11 +5,14 @@ use crate::c;
 use crate::chs::CHS;
 use crate::error::{Error, Result};
 
-pub const BLOCK: usize = 12108;
+pub const BLOCK: usize = 12084;
 pub const HEADER: usize = 520;
-pub const SLOT: usize = 482;
+pub const SLOT: usize = 480;
+/// Where the 24 tags of a block begin.
+pub const TAGS: usize = 12060;
+/// A slot and its tag.
+pub const LONE_SLOT: usize = SLOT + 1;
 pub const STORE: usize = 516;
-pub const LOGICALS: usize = 24;
 const RUNS: usize = 240;
 const LISTING: usize = 2048;
 /// An extract of 64 records.
@@ -225,6 +228,6 @@ pub fn write_header(h: &[u8; HEADER], x: &[u8]) -> Result<Vec<u8>> {
     })
 }
 
-pub fn update_chs(slot: &mut [u8; SLOT], cylinders: u16, heads: u8, sectors: u8) -> Result<()> {
-    status(unsafe { c::cv_update_chs(slot.as_mut_ptr(), SLOT, cylinders, heads, sectors) })
+pub fn update_chs(slot: &mut [u8; LONE_SLOT], cylinders: u16, heads: u8, sectors: u8) -> Result<()> {
+    status(unsafe { c::cv_update_chs(slot.as_mut_ptr(), LONE_SLOT, cylinders, heads, sectors) })
 }

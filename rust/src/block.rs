@@ -1,7 +1,15 @@
 //! A table, a header and a logical partition as the archive's bytes, and back. All numbers are little-endian.
 
-use crate::archive::{Block, BLOCK, HEADER, LOGICALS, SLOT};
+use crate::archive::{Block, BLOCK, HEADER, LONE_SLOT, SLOT, TAGS};
 use crate::{LogicalPartition, MBRHeader, MBRPartitionEntry, CHS, MBR};
+
+/// What a tag is the sum of.
+const EBR_SECTORS: u8 = 1;
+const EBR_LAST: u8 = 2;
+
+fn tag(l: &LogicalPartition) -> u8 {
+    u8::from(l.ebr_sectors.is_some()) * EBR_SECTORS + u8::from(l.ebr_last_chs.is_some()) * EBR_LAST
+}
 
 /// Bytes put one behind the other.
 struct Puts<'a>(&'a mut [u8]);
@@ -33,13 +41,10 @@ impl Puts<'_> {
         self.bytes(&h.boot_signature)
     }
 
-    /// An absent value is tag 0 and zeros.
+    /// An absent value is zeros.
     fn slot(&mut self, l: &LogicalPartition) -> &mut Self {
-        self.entry(&l.partition).number(l.absolute_ebr_lba);
-        self.bytes(&[l.ebr_sectors.is_some().into()]).number(l.ebr_sectors.unwrap_or(0));
-        self.chs(l.ebr_first_chs);
-        self.bytes(&[l.ebr_last_chs.is_some().into()]).chs(l.ebr_last_chs.unwrap_or(CHS::empty()));
-        self.bytes(&l.bootstrap_code)
+        self.entry(&l.partition).number(l.absolute_ebr_lba).number(l.ebr_sectors.unwrap_or(0));
+        self.chs(l.ebr_first_chs).chs(l.ebr_last_chs.unwrap_or(CHS::empty())).bytes(&l.bootstrap_code)
     }
 }
 
@@ -90,19 +95,14 @@ impl Takes<'_> {
         }
     }
 
-    fn optional<T>(&mut self, take: impl FnOnce(&mut Self) -> T) -> Option<T> {
-        let present = self.byte() == 1;
-        let value = take(self);
-        present.then_some(value)
-    }
-
-    fn slot(&mut self) -> LogicalPartition {
+    /// The bytes of an absent value are taken too.
+    fn slot(&mut self, tag: u8) -> LogicalPartition {
         LogicalPartition {
             partition: self.entry(),
             absolute_ebr_lba: self.number(),
-            ebr_sectors: self.optional(Self::number),
+            ebr_sectors: Some(self.number()).filter(|_| tag & EBR_SECTORS != 0),
             ebr_first_chs: self.chs(),
-            ebr_last_chs: self.optional(Self::chs),
+            ebr_last_chs: Some(self.chs()).filter(|_| tag & EBR_LAST != 0),
             bootstrap_code: self.bytes(),
         }
     }
@@ -111,23 +111,26 @@ impl Takes<'_> {
 /// The table's block. Of more than 24 logical partitions it has the count, by which the archive refuses it.
 pub fn of_table(t: &MBR) -> Block {
     let mut block = [0; BLOCK];
+    let (slots, tags) = block.split_at_mut(TAGS);
     let count = u32::try_from(t.logical_partitions.len()).unwrap_or(u32::MAX);
-    let mut puts = Puts(&mut block);
+    let mut puts = Puts(slots);
     puts.number(t.sector_size).number(t.disk_size).number(t.align).number(count);
     puts.bytes(&t.cylinders.to_le_bytes()).bytes(&[t.heads, t.sectors]).header(&t.header);
-    for l in t.logical_partitions.iter().take(LOGICALS) {
+    for (l, place) in t.logical_partitions.iter().zip(tags) {
         puts.slot(l);
+        *place = tag(l);
     }
     block
 }
 
 /// The table of a block that the archive has filled.
 pub fn to_table(block: &Block) -> MBR {
-    let mut takes = Takes(block);
+    let (slots, tags) = block.split_at(TAGS);
+    let mut takes = Takes(slots);
     let [sector_size, disk_size, align, count] = [(); 4].map(|()| takes.number());
     let (cylinders, heads, sectors) = (u16::from_le_bytes(takes.bytes()), takes.byte(), takes.byte());
     let header = takes.header();
-    let logical_partitions = (0..count).map(|_| takes.slot()).collect();
+    let logical_partitions = tags[..count as usize].iter().map(|&tag| takes.slot(tag)).collect();
     MBR { sector_size, header, logical_partitions, align, cylinders, heads, sectors, disk_size }
 }
 
@@ -141,12 +144,12 @@ pub fn to_header(bytes: &[u8; HEADER]) -> MBRHeader {
     Takes(bytes).header()
 }
 
-pub fn of_logical(l: &LogicalPartition) -> [u8; SLOT] {
-    let mut bytes = [0; SLOT];
-    Puts(&mut bytes).slot(l);
+pub fn of_logical(l: &LogicalPartition) -> [u8; LONE_SLOT] {
+    let mut bytes = [0; LONE_SLOT];
+    Puts(&mut bytes).slot(l).bytes(&[tag(l)]);
     bytes
 }
 
-pub fn to_logical(bytes: &[u8; SLOT]) -> LogicalPartition {
-    Takes(bytes).slot()
+pub fn to_logical(bytes: &[u8; LONE_SLOT]) -> LogicalPartition {
+    Takes(bytes).slot(bytes[SLOT])
 }

@@ -6,7 +6,7 @@ use common::{disk_k, entry, logical, new_table, table_k, zeros, Event, Noted};
 use std::io::Cursor;
 use std::panic::{catch_unwind, AssertUnwindSafe};
 
-use crumbvessel::{Error, Extract, MBRHeader, Result, CHS, MBR};
+use crumbvessel::{Error, Extract, LogicalPartition, MBRHeader, Result, CHS, MBR};
 
 /// A table with this many logical partitions of 4 sectors each, one behind the other.
 fn chain(logicals: u32) -> MBR {
@@ -277,6 +277,31 @@ fn addresses_of_one_partition() {
     assert_eq!(number(l.update_chs(1, 10, 63)), 14);
     assert_eq!(number(l.update_chs(1, 0, 63)), 7);
     assert_eq!(l, before);
+    // Without link sectors there is no last link address.
+    l.ebr_sectors = None;
+    l.update_chs(1023, 255, 63).unwrap();
+    assert_eq!(l, LogicalPartition { ebr_sectors: None, ebr_last_chs: None, ..before });
+}
+
+#[test]
+fn link_fields_of_every_kind() {
+    let mut k = table_k();
+    for i in 2..5 {
+        k.push(0x83, 4096 * i, 4096).unwrap();
+    }
+    k.logical_partitions[1].ebr_last_chs = None;
+    k.logical_partitions[2].ebr_sectors = None;
+    k.logical_partitions[3].ebr_last_chs = Some(CHS::new(1023, 254, 63));
+    let mut without = k.clone();
+    let second = without.logical_partitions.remove(1);
+    assert_eq!(k.remove(6), second);
+    assert_eq!(k, without);
+    let first = without.logical_partitions.remove(0);
+    assert_eq!(k.remove(5), first);
+    assert_eq!(k, without);
+    k.push(0x83, 8192, 4096).unwrap();
+    assert_eq!((k.logical_partitions[0].ebr_sectors, k.logical_partitions[2].ebr_sectors), (None, Some(4096)));
+    assert_eq!(k.logical_partitions[..2], without.logical_partitions);
 }
 
 #[test]

@@ -214,7 +214,7 @@ impl Archive {
         let done = changed(b, |p, n| u64::from(unsafe { cv_remove(p, n, number) }) << 32);
         Some(match done {
             Ok((_, after)) => {
-                let removed = block::logical(&b[block::slot(number as usize - 5)..]);
+                let removed = block::logical(&block::lone(b, number as usize - 5));
                 format!("done {} {}", text::logical(&removed), text::table(&after))
             }
             Err(k) => format!("refused {k} {}", text::table(t)),
@@ -340,7 +340,7 @@ fn edits(word: &str, t: &MBR, b: &[u8], mut w: Words, x: &[u8]) -> Said {
             })
         }
         "update_chs" => {
-            let mut slot = b[block::slot(w.usize())..][..block::SLOT].to_vec();
+            let mut slot = block::lone(b, w.usize());
             let k = unsafe { cv_update_chs(slot.as_mut_ptr(), slot.len(), t.cylinders, t.heads, t.sectors) };
             let first = if k == 0 { "done".to_string() } else { format!("refused {k}") };
             Some(format!("{first} {}", text::logical(&block::logical(&slot))))

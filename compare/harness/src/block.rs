@@ -4,14 +4,25 @@ use mbrman::{LogicalPartition, MBRHeader, MBRPartitionEntry, CHS, MBR};
 
 use crate::text;
 
-pub const BLOCK: usize = 12108;
+pub const BLOCK: usize = 12084;
 pub const HEADER: usize = 20;
 pub const HEADER_LENGTH: usize = 520;
-pub const SLOT: usize = 482;
+const SLOT: usize = 480;
 const SLOTS: usize = 24;
+/// Where the tags begin, one for each slot.
+pub const TAGS: usize = 12060;
 
-pub fn slot(i: usize) -> usize {
+fn slot(i: usize) -> usize {
     540 + SLOT * i
+}
+
+/// Slot i of a block, then its tag.
+pub fn lone(b: &[u8], i: usize) -> Vec<u8> {
+    [&b[slot(i)..][..SLOT], &[b[TAGS + i]]].concat()
+}
+
+fn tag(l: &LogicalPartition) -> u8 {
+    u8::from(l.ebr_sectors.is_some()) + 2 * u8::from(l.ebr_last_chs.is_some())
 }
 
 struct Writer(Vec<u8>);
@@ -46,16 +57,14 @@ impl Writer {
     fn logical(&mut self, l: &LogicalPartition) {
         self.entry(&l.partition);
         self.put(&l.absolute_ebr_lba.to_le_bytes());
-        self.put(&[u8::from(l.ebr_sectors.is_some())]);
         self.put(&l.ebr_sectors.unwrap_or(0).to_le_bytes());
         self.chs(&l.ebr_first_chs);
-        self.put(&[u8::from(l.ebr_last_chs.is_some())]);
         self.chs(&l.ebr_last_chs.unwrap_or(CHS::empty()));
         self.put(&l.bootstrap_code);
     }
 }
 
-/// The block of a table; slots behind its partitions are zeros, and those behind the 24th are left out.
+/// The block of a table; slots and tags behind its partitions are zeros, and partitions behind the 24th are left out.
 pub fn of_table(t: &MBR) -> Vec<u8> {
     let mut w = Writer(Vec::with_capacity(BLOCK));
     for n in [t.sector_size, t.disk_size, t.align, t.logical_partitions.len() as u32] {
@@ -65,6 +74,8 @@ pub fn of_table(t: &MBR) -> Vec<u8> {
     w.put(&[t.heads, t.sectors]);
     w.header(&t.header);
     t.logical_partitions.iter().take(SLOTS).for_each(|l| w.logical(l));
+    w.0.resize(TAGS, 0);
+    t.logical_partitions.iter().take(SLOTS).for_each(|l| w.put(&[tag(l)]));
     w.0.resize(BLOCK, 0);
     w.0
 }
@@ -114,17 +125,15 @@ impl Reader<'_> {
         }
     }
 
-    fn logical(&mut self) -> LogicalPartition {
-        let (partition, absolute_ebr_lba) = (self.entry(), self.u32());
-        let (has_sectors, sectors) = (self.u8() == 1, self.u32());
-        let ebr_first_chs = self.chs();
-        let (has_last, last) = (self.u8() == 1, self.chs());
+    fn logical(&mut self, tag: u8) -> LogicalPartition {
+        let (partition, absolute_ebr_lba, sectors) = (self.entry(), self.u32(), self.u32());
+        let (ebr_first_chs, last) = (self.chs(), self.chs());
         LogicalPartition {
             partition,
             absolute_ebr_lba,
-            ebr_sectors: has_sectors.then_some(sectors),
+            ebr_sectors: (tag & 1 != 0).then_some(sectors),
             ebr_first_chs,
-            ebr_last_chs: has_last.then_some(last),
+            ebr_last_chs: (tag & 2 != 0).then_some(last),
             bootstrap_code: self.take(),
         }
     }
@@ -134,25 +143,30 @@ pub fn entry(bytes: &[u8]) -> MBRPartitionEntry {
     Reader(bytes).entry()
 }
 
-pub fn logical(bytes: &[u8]) -> LogicalPartition {
-    Reader(bytes).logical()
+/// The partition in a slot with its tag.
+pub fn logical(lone: &[u8]) -> LogicalPartition {
+    Reader(lone).logical(lone[SLOT])
 }
 
 pub fn header(bytes: &[u8]) -> MBRHeader {
     Reader(bytes).header()
 }
 
-/// The table of a block. No byte of it is left to chance: slots in use are what the table is written as again, the others
-/// are as in the block that was handed in, or zeros.
+/// The table of a block. No byte of it is left to chance: slots in use and their tags are what the table is written as
+/// again, the others are as in the block that was handed in, or zeros.
 pub fn table(b: &[u8], given: Option<&[u8]>) -> MBR {
     let mut r = Reader(b);
     let (sector_size, disk_size, align, count) = (r.u32(), r.u32(), r.u32(), r.u32() as usize);
     let (cylinders, heads, sectors) = (u16::from_le_bytes(r.take()), r.u8(), r.u8());
     let header = r.header();
-    let logical_partitions = (0..count).map(|_| r.logical()).collect();
+    let logical_partitions = b[TAGS..TAGS + count].iter().map(|&tag| r.logical(tag)).collect();
     let t = MBR { sector_size, header, logical_partitions, align, cylinders, heads, sectors, disk_size };
-    let (zeros, used) = (vec![0; BLOCK], slot(count));
-    assert!(of_table(&t)[..used] == b[..used], "a block with other bytes than its table's");
-    assert!(b[used..] == given.unwrap_or(&zeros)[used..], "an unused slot is not as given");
+    let (again, zeros, used) = (of_table(&t), vec![0; BLOCK], slot(count));
+    let given = given.unwrap_or(&zeros);
+    assert!(b[..used] == again[..used], "a block with other bytes than its table's");
+    assert!(b[used..TAGS] == given[used..TAGS], "an unused slot is not as given");
+    let used = TAGS + count;
+    assert!(b[TAGS..used] == again[TAGS..used], "a block with other tags than its table's");
+    assert!(b[used..] == given[used..], "the tag of an unused slot is not as given");
     t
 }

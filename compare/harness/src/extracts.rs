@@ -81,8 +81,7 @@ fn refusal(b: &[u8]) -> u64 {
     if u32::from_le_bytes(b[12..16].try_into().unwrap()) > 24 {
         return 6;
     }
-    let tags = (0..24).flat_map(|i| [b[block::slot(i) + 22], b[block::slot(i) + 31]]);
-    if tags.into_iter().any(|tag| tag > 1) { 102 } else { 0 }
+    if b[block::TAGS..].iter().any(|&tag| tag > 3) { 102 } else { 0 }
 }
 
 /// Blocks with one or two rules broken: every function says the same of them. Outputs that are no block.

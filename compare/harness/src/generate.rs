@@ -4,7 +4,7 @@ use mbrman::{LogicalPartition, MBRHeader, MBRPartitionEntry, CHS, MBR};
 
 use crate::adapter::{Disk, Extract, RECORD};
 #[cfg(feature = "archive")]
-use crate::block::{slot, BLOCK};
+use crate::block::{BLOCK, TAGS};
 use crate::refusal::{run, Operation};
 use crate::text;
 
@@ -478,8 +478,8 @@ pub fn break_block(rng: &mut Rng, b: &mut Vec<u8>) {
             0 if b.len() == BLOCK => b.resize(rng.of(&[0, 16, 540, BLOCK - 1, BLOCK + 1, 2 * BLOCK]), 0),
             1 if b.len() >= 16 => b[12..16].copy_from_slice(&rng.of(&[25, 26, 255, 256, BIG]).to_le_bytes()),
             _ if b.len() >= BLOCK => {
-                let at = slot(rng.below(24) as usize) + rng.of(&[22, 31]);
-                b[at] = rng.of(&[2, 3, 128, 255]);
+                let at = TAGS + rng.below(24) as usize;
+                b[at] = rng.of(&[4, 5, 128, 255]);
             }
             _ => {}
         }

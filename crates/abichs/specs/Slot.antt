@@ -1,24 +1,28 @@
--- update_chs on a logical partition that is handed in as the 482 bytes of a slot. Assumes nothing.
+-- update_chs on a logical partition that is handed in alone, as the 480 bytes of a slot and its tag. Assumes nothing.
 use Prim.Native.Nat.{ℕ}
-use mathlib.Core.List.{List, [], _∷_}
+use mathlib.Core.List.{List, [], _∷_, _++_}
 use lib.Dec.{eqb}
-use lib.ListN.{length}
+use lib.ListN.{length, getD}
 use Rattle.base.specs.Said.{Said, gives, refuses, andThen}
 use Rattle.base.specs.Checks.{Check, _!_, answer}
 use Rattle.table.specs.declared.LogicalPartition.{LogicalPartition}
-use Rattle.block.specs.Block.{slotPart, slotOf, slotTagged}
+use Rattle.block.specs.Block.{slotPart, slotOf, tagOf, possible}
 use Rattle.address.specs.declared.Geometry.{Geometry}
 use Rattle.push.specs.Address.{updateChs}
 
+-- the tag stands behind the slot
+abbrev pub aloneTag : List ℕ → ℕ
+aloneTag s = getD s 480 0
+
 -- another length 101, an impossible tag 102
 abbrev pub slotChecks : List ℕ → List Check
-slotChecks s = (101 ! eqb (length s) 482) ∷ (102 ! slotTagged s) ∷ []
+slotChecks s = (101 ! eqb (length s) 481) ∷ (102 ! possible (aloneTag s)) ∷ []
 
 -- the partition with its four addresses, or a refusal: the slot's, then those of the addresses
 abbrev pub slotSays : Geometry → List ℕ → Said LogicalPartition
-slotSays g s = andThen (answer (slotChecks s) (slotOf s)) (updateChs g)
+slotSays g s = andThen (answer (slotChecks s) (slotOf (aloneTag s) s)) (updateChs g)
 
 -- the lent slot afterwards: a refusal leaves it as it was
 abbrev pub slotAfter : List ℕ → Said LogicalPartition → List ℕ
 slotAfter s (refuses k) = s
-slotAfter s (gives l) = slotPart l
+slotAfter s (gives l) = slotPart l ++ (tagOf l ∷ [])

@@ -1,4 +1,4 @@
-// The addresses of a logical partition, for programs in C and Rust: the partition is the 482 bytes of a block's slot.
+// The addresses of a logical partition, for programs in C and Rust: the partition is the 480 bytes of a block's slot, and its tag.
 use base::Answer;
 use table::LogicalPartition;
 ghost use mathlib.Core.Path.{_≡_};
@@ -10,12 +10,12 @@ ghost use Rattle.push.specs.Address.{updateChs};
 ghost use Rattle.packed.specs.Packed.{status};
 ghost use Rattle.abichs.specs.Slot.{slotSays, slotAfter};
 
-// The bytes of a slot in a block.
-const SLOT: usize = 482;
+// The bytes of a slot and its tag.
+const SLOT: usize = 481;
 
 // The partition that stands in the slot.
 fn update_on(slot: &mut [u8], l: LogicalPartition, cylinders: u16, heads: u8, sectors: u8) -> u8
-    requires { ⌜ length (now slot) ≡ 482 ⌝ }
+    requires { ⌜ length (now slot) ≡ 481 ⌝ }
     ensures { λ r. ⌜ r ≡ status (failure (updateChs (geometryIn cylinders heads sectors) l)) ⌝ }
     ensures { λ r. ⌜ now (slot .exit) ≡ slotAfter (now (slot .entry)) (updateChs (geometryIn cylinders heads sectors) l) ⌝ }
 {
@@ -25,7 +25,9 @@ fn update_on(slot: &mut [u8], l: LogicalPartition, cylinders: u16, heads: u8, se
         Answer::Refused(k) => k,
         Answer::Done => {
             let m = u.logical;
+            let tag = slotput::tag_of(m);
             slotwrite::put_slot(slot, 0, m);
+            base::put8(slot, 480, tag);
             0
         }
     }
@@ -40,9 +42,10 @@ pub extern "C" fn cv_update_chs(slot: &mut [u8], cylinders: u16, heads: u8, sect
     if slot.len() != SLOT {
         return 101;
     }
-    if !slotread::slot_tagged(slot) {
+    let tag = slot[480];
+    if 3 < tag {
         return 102;
     }
-    let l = slotread::get_slot(slot);
+    let l = slotread::get_slot(slot, tag);
     update_on(slot, l, cylinders, heads, sectors)
 }

@@ -1,4 +1,4 @@
-// Tables for programs in C and Rust, as blocks of 12,108 bytes: reading, push and removal. What only refuses answers
+// Tables for programs in C and Rust, as blocks of 12,084 bytes: reading, push and removal. What only refuses answers
 // the refusal's number, or 0; push answers as in `abi`. A block that is none is 101 (its length) or 102 (a tag).
 use base::Answer;
 use extract::Outcome;

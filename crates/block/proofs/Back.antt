@@ -27,9 +27,9 @@ use Rattle.table.specs.declared.MaybeChs.the-variants.{Absent as NoChs, Present
 use Rattle.table.specs.declared.LogicalPartition.{LogicalPartition}
 use Rattle.table.specs.declared.MBR.{MBR}
 use Rattle.table.specs.Table.{most, noLogical}
-use Rattle.block.specs.Block.{part, chsPart, chsIn, entryPart, entryIn, sectorsPart, sectorsIn, lastPart, lastIn, slotFront, slotPart, slotOf, slotTagged, codePart, entriesPart, headerPart, headerIn, frontPart, slotsPart, slotAt, slotsIn, tagged, blockBytes, tableIn, blockChecks}
+use Rattle.block.specs.Block.{part, chsPart, chsIn, entryPart, entryIn, sectorsPart, sectorsTag, sectorsIn, lastPart, lastTag, lastIn, slotFront, slotPart, slotOf, tagOf, codePart, entriesPart, headerPart, headerIn, frontPart, slotsPart, tagsPart, slotAt, tagAt, slotsIn, possible, tagged, blockBytes, tableIn, blockChecks}
 use Rattle.block.specs.Fits.{ChsFits, EntryFits, SectorsFit, LastFits, SlotFits, SlotsFit, HeaderFits, TableFits}
-use Rattle.block.proofs.Laws.{length-front, length-slot, part-at}
+use Rattle.block.proofs.Laws.{length-front, length-slot, length-tags, part-at}
 
 -- an address from its four bytes, and an entry from its eighteen
 pub chs-back : (c : CHS) → ChsFits c → chsIn (chsPart c) 0 ≡ c
@@ -50,25 +50,21 @@ module _ (e : MBRPartitionEntry) (a : ℕ) (f : CHS) (q : List ℕ) where
   place-there : a < 2 ^ 32 → (m : MaybeSectors) (n : MaybeChs) → number little (bytesAt (fields m n) 18 4) ≡ a
   place-there k m n = number-bytesOf little 4 a k
 
-  sectors-there : (m : MaybeSectors) (n : MaybeChs) → SectorsFit m → sectorsIn (fields m n) 22 ≡ m
-  sectors-there Absent n k = refl
-  sectors-there (Present v) n k = ap Present (number-bytesOf little 4 v k)
+  sectors-there : (m : MaybeSectors) (n : MaybeChs) → SectorsFit m → sectorsIn (sectorsTag m + lastTag n) (fields m n) 22 ≡ m
+  sectors-there Absent NoChs k = refl
+  sectors-there Absent (SomeChs c) k = refl
+  sectors-there (Present v) NoChs k = ap Present (number-bytesOf little 4 v k)
+  sectors-there (Present v) (SomeChs c) k = ap Present (number-bytesOf little 4 v k)
 
-  first-there : ChsFits f → (m : MaybeSectors) (n : MaybeChs) → chsIn (fields m n) 27 ≡ f
+  first-there : ChsFits f → (m : MaybeSectors) (n : MaybeChs) → chsIn (fields m n) 26 ≡ f
   first-there k Absent n = chs-back f k
   first-there k (Present v) n = chs-back f k
 
-  last-there : (m : MaybeSectors) (n : MaybeChs) → LastFits n → lastIn (fields m n) 31 ≡ n
+  last-there : (m : MaybeSectors) (n : MaybeChs) → LastFits n → lastIn (sectorsTag m + lastTag n) (fields m n) 30 ≡ n
   last-there Absent NoChs k = refl
   last-there Absent (SomeChs c) k = ap SomeChs (chs-back c k)
   last-there (Present v) NoChs k = refl
   last-there (Present v) (SomeChs c) k = ap SomeChs (chs-back c k)
-
-  tags-there : (m : MaybeSectors) (n : MaybeChs) → slotTagged (fields m n) ≡ true
-  tags-there Absent NoChs = refl
-  tags-there Absent (SomeChs c) = refl
-  tags-there (Present v) NoChs = refl
-  tags-there (Present v) (SomeChs c) = refl
 
 kept-there : (x : List ℕ) (k : Kept) → length (k .«bootstrap_code») ≡ 446 → x ≡ k .«bootstrap_code» → keptOf x ≡ k
 unfolding keptOf
@@ -76,7 +72,7 @@ kept-there x k n e =
     let c : take 446 x ≡ k .«bootstrap_code» = ap (take 446) e ∙ take-all 446 (k .«bootstrap_code») (omega arith) in
     λ i. record { «bootstrap_code» = c i }
 
-pub slot-back : (l : LogicalPartition) → SlotFits l → slotOf (slotPart l) ≡ l
+pub slot-back : (l : LogicalPartition) → SlotFits l → slotOf (tagOf l) (slotPart l) ≡ l
 unfolding slotPart
 slot-back l k =
     let e = l .partition in
@@ -85,19 +81,24 @@ slot-back l k =
     let q = l .kept .«bootstrap_code» in
     let m = l .«ebr_sectors» in
     let n = l .«ebr_last_chs» in
-    let c : part (slotFront l ++ q) 36 446 ≡ q = part-at (slotFront l ++ q) (slotFront l) q [] 36 446 (ap (λ (r : List ℕ). slotFront l ++ r) (sym (append-nil q))) (length-front l) (k .code) in
+    let c : part (slotFront l ++ q) 34 446 ≡ q = part-at (slotFront l ++ q) (slotFront l) q [] 34 446 (ap (λ (r : List ℕ). slotFront l ++ r) (sym (append-nil q))) (length-front l) (k .code) in
     λ i. record {
       partition = entry-there e a f q (k .partition) m n i;
       «absolute_ebr_lba» = record { 0 = place-there e a f q (k .place) m n i };
       «ebr_sectors» = sectors-there e a f q m n (k .sectors) i;
       «ebr_first_chs» = first-there e a f q (k .first) m n i;
       «ebr_last_chs» = last-there e a f q m n (k .last) i;
-      kept = kept-there (part (slotFront l ++ q) 36 446) (l .kept) (k .code) c i;
+      kept = kept-there (part (slotFront l ++ q) 34 446) (l .kept) (k .code) c i;
     }
 
-pub slot-tags : (l : LogicalPartition) → slotTagged (slotPart l) ≡ true
-unfolding slotPart
-slot-tags l = tags-there (l .partition) (l .«absolute_ebr_lba» .0) (l .«ebr_first_chs») (l .kept .«bootstrap_code») (l .«ebr_sectors») (l .«ebr_last_chs»)
+pub slot-tag : (l : LogicalPartition) → possible (tagOf l) ≡ true
+slot-tag l = go (l .«ebr_sectors») (l .«ebr_last_chs»)
+  where
+    go : (m : MaybeSectors) (n : MaybeChs) → possible (sectorsTag m + lastTag n) ≡ true
+    go Absent NoChs = refl
+    go Absent (SomeChs c) = refl
+    go (Present v) NoChs = refl
+    go (Present v) (SomeChs c) = refl
 
 -- an entry is read from its bytes alone
 entry-like : (s t : List ℕ) (a b : ℕ) → ((j : ℕ) → getD s (a + j) 0 ≡ getD t (b + j) 0) → entryIn s a ≡ entryIn t b
@@ -177,42 +178,61 @@ module _ (h : MBRHeader) (k : HeaderFits h) where
       }
 
 -- the slots of a block
-pub length-slots : (ls : List LogicalPartition) → SlotsFit ls → length (slotsPart ls) ≡ 482 * length ls
+pub length-slots : (ls : List LogicalPartition) → SlotsFit ls → length (slotsPart ls) ≡ 480 * length ls
 unfolding slotsPart
 length-slots [] k = refl
 length-slots (l ∷ ls) k =
     length-append (slotPart l) (slotsPart ls) ∙ omega (arith, length-slot l (k .0 .code), length-slots ls (k .1))
 
-slot-there : (b p : List ℕ) (ls : List LogicalPartition) (o n : ℕ) → b ≡ p ++ slotsPart ls → length p ≡ o → SlotsFit ls → n < length ls
-    → part b (o + 482 * n) 482 ≡ slotPart (getD ls n noLogical)
+slot-there : (b p q : List ℕ) (ls : List LogicalPartition) (o n : ℕ) → b ≡ p ++ (slotsPart ls ++ q) → length p ≡ o → SlotsFit ls → n < length ls
+    → part b (o + 480 * n) 480 ≡ slotPart (getD ls n noLogical)
 unfolding slotsPart
-slot-there b p [] o n e a k h = absurd (omega arith)
-slot-there b p (l ∷ ls) o zero e a k h = part-at b p (slotPart l) (slotsPart ls) (o + 482 * 0) 482 e (omega arith) (length-slot l (k .0 .code))
-slot-there b p (l ∷ ls) o (suc n) e a k h =
-    let z : o + 482 * suc n ≡ (o + 482) + 482 * n = omega arith in
-    let w : length (p ++ slotPart l) ≡ o + 482 = length-append p (slotPart l) ∙ omega (arith, length-slot l (k .0 .code)) in
-    ap (λ (i : ℕ). part b i 482) z
-    ∙ slot-there b (p ++ slotPart l) ls (o + 482) n (e ∙ sym (append-assoc p (slotPart l) (slotsPart ls))) w (k .1) (omega arith)
+slot-there b p q [] o n e a k h = absurd (omega arith)
+slot-there b p q (l ∷ ls) o zero e a k h =
+    part-at b p (slotPart l) (slotsPart ls ++ q) (o + 480 * 0) 480 (e ∙ ap (λ (r : List ℕ). p ++ r) (append-assoc (slotPart l) (slotsPart ls) q)) (omega arith) (length-slot l (k .0 .code))
+slot-there b p q (l ∷ ls) o (suc n) e a k h =
+    let z : o + 480 * suc n ≡ (o + 480) + 480 * n = omega arith in
+    let w : length (p ++ slotPart l) ≡ o + 480 = length-append p (slotPart l) ∙ omega (arith, length-slot l (k .0 .code)) in
+    let f : b ≡ (p ++ slotPart l) ++ (slotsPart ls ++ q) = e ∙ ap (λ (r : List ℕ). p ++ r) (append-assoc (slotPart l) (slotsPart ls) q) ∙ sym (append-assoc p (slotPart l) (slotsPart ls ++ q)) in
+    ap (λ (i : ℕ). part b i 480) z
+    ∙ slot-there b (p ++ slotPart l) q ls (o + 480) n f w (k .1) (omega arith)
+
+pub tag-there : (ls : List LogicalPartition) (n : ℕ) → n < length ls → getD (tagsPart ls) n 0 ≡ tagOf (getD ls n noLogical)
+unfolding tagsPart
+tag-there [] n h = absurd (omega arith)
+tag-there (l ∷ ls) zero h = refl
+tag-there (l ∷ ls) (suc n) h = tag-there ls n (omega arith)
 
 fit-at : (ls : List LogicalPartition) (n : ℕ) → SlotsFit ls → n < length ls → SlotFits (getD ls n noLogical)
 fit-at [] n k h = absurd (omega arith)
 fit-at (l ∷ ls) zero k h = k .0
 fit-at (l ∷ ls) (suc n) k h = fit-at ls n (k .1) (omega arith)
 
-module _ (b p : List ℕ) (ls : List LogicalPartition) (e : b ≡ p ++ slotsPart ls) (a : length p ≡ 540) (k : SlotsFit ls) where
-  slots-back : (n : ℕ) → n ≤ length ls → slotsIn b n ≡ take n ls
+module _ (b p : List ℕ) (ls : List LogicalPartition) (e : b ≡ p ++ (slotsPart ls ++ tagsPart ls)) (a : length p ≡ 540) (k : SlotsFit ls) (l : length ls ≡ 24) where
+  tag-back : (n : ℕ) → n < 24 → tagAt b n ≡ tagOf (getD ls n noLogical)
+  tag-back n h =
+      let w : length (p ++ slotsPart ls) ≡ 12060 = length-append p (slotsPart ls) ∙ omega (arith, length-slots ls k) in
+      ap (λ (x : List ℕ). getD x (12060 + n) 0) (e ∙ sym (append-assoc p (slotsPart ls) (tagsPart ls)))
+      ∙ ap (λ (m : ℕ). getD ((p ++ slotsPart ls) ++ tagsPart ls) (m + n) 0) (sym w)
+      ∙ getD-append-add (p ++ slotsPart ls) (tagsPart ls) n 0
+      ∙ tag-there ls n (omega arith)
+
+  slots-back : (n : ℕ) → n ≤ 24 → slotsIn b n ≡ take n ls
   unfolding slotsIn
   slots-back zero h = refl
   slots-back (suc n) h =
-      let s : slotOf (slotAt b n) ≡ getD ls n noLogical = ap slotOf (slot-there b p ls 540 n e a k (omega arith)) ∙ slot-back (getD ls n noLogical) (fit-at ls n k (omega arith)) in
+      let s : slotOf (tagAt b n) (slotAt b n) ≡ getD ls n noLogical =
+      ap (λ (t : ℕ). slotOf t (slotAt b n)) (tag-back n (omega arith))
+      ∙ ap (slotOf (tagOf (getD ls n noLogical))) (slot-there b p (tagsPart ls) ls 540 n e a k (omega arith))
+      ∙ slot-back (getD ls n noLogical) (fit-at ls n k (omega arith)) in
       let r : slotsIn b n ≡ take n ls = slots-back n (omega arith) in
       rw (r, s) (sym (take-suc ls n noLogical (omega arith)))
 
-  slots-tagged : (i n : ℕ) → i + n ≤ length ls → tagged b i n ≡ true
+  slots-tagged : (i n : ℕ) → i + n ≤ 24 → tagged b i n ≡ true
   unfolding tagged
   slots-tagged i zero h = refl
   slots-tagged i (suc n) h =
-      let s : slotTagged (slotAt b i) ≡ true = ap slotTagged (slot-there b p ls 540 i e a k (omega arith)) ∙ slot-tags (getD ls i noLogical) in
+      let s : possible (tagAt b i) ≡ true = ap possible (tag-back i (omega arith)) ∙ slot-tag (getD ls i noLogical) in
       rw s (slots-tagged (suc i) n (omega arith))
 
 module _ (t : MBR) (k : TableFits t) where
@@ -222,19 +242,24 @@ module _ (t : MBR) (k : TableFits t) where
   abbrev slots : List ℕ
   slots = slotsPart (t .«logical_partitions»)
 
-  in-parts : blockBytes t ≡ (front ++ headerPart (t .header)) ++ slots
-  unfolding blockBytes
-  in-parts = refl
+  abbrev tags : List ℕ
+  tags = tagsPart (t .«logical_partitions»)
 
-  behind-front : blockBytes t ≡ front ++ (headerPart (t .header) ++ slots)
-  behind-front = in-parts ∙ append-assoc front (headerPart (t .header)) slots
+  in-parts : blockBytes t ≡ (front ++ headerPart (t .header)) ++ (slots ++ tags)
+  unfolding blockBytes
+  in-parts = append-assoc (front ++ headerPart (t .header)) slots tags
+
+  behind-front : blockBytes t ≡ front ++ (headerPart (t .header) ++ (slots ++ tags))
+  behind-front = in-parts ∙ append-assoc front (headerPart (t .header)) (slots ++ tags)
 
   m₂ : length (front ++ headerPart (t .header)) ≡ 540
   m₂ = length-append front (headerPart (t .header)) ∙ rw (length-header (t .header) (k .header))
 
-  -- a block has 12,108 bytes
-  pub length-block : length (blockBytes t) ≡ 12108
-  length-block = ap length in-parts ∙ length-append (front ++ headerPart (t .header)) slots ∙ omega (arith, m₂, length-slots (t .«logical_partitions») (k .slots), k .long)
+  -- a block has 12,084 bytes
+  pub length-block : length (blockBytes t) ≡ 12084
+  length-block =
+      ap length in-parts ∙ length-append (front ++ headerPart (t .header)) (slots ++ tags)
+      ∙ omega (arith, m₂, length-append slots tags, length-slots (t .«logical_partitions») (k .slots), length-tags (t .«logical_partitions»), k .long)
 
   -- the count in a block is the table's
   count-back : number little (bytesAt (blockBytes t) 12 4) ≡ t .count
@@ -245,7 +270,6 @@ module _ (t : MBR) (k : TableFits t) where
   unfolding tableIn
   table-back =
       let b : List ℕ = blockBytes t in
-      let f : List ℕ = front ++ (headerPart (t .header) ++ slots) in
       let e = behind-front in
       let size : number little (bytesAt b 0 4) ≡ t .«sector_size» = ap (λ (x : List ℕ). number little (bytesAt x 0 4)) e ∙ number-bytesOf little 4 (t .«sector_size») (k .size) in
       let disk : number little (bytesAt b 4 4) ≡ t .«disk_size» = ap (λ (x : List ℕ). number little (bytesAt x 4 4)) e ∙ number-bytesOf little 4 (t .«disk_size») (k .disk) in
@@ -254,9 +278,9 @@ module _ (t : MBR) (k : TableFits t) where
       let hd : getD b 18 0 ≡ t .heads = ap (λ (x : List ℕ). getD x 18 0) e in
       let sc : getD b 19 0 ≡ t .sectors = ap (λ (x : List ℕ). getD x 19 0) e in
       let h : headerIn (part b 20 520) ≡ t .header =
-      ap headerIn (part-at b front (headerPart (t .header)) slots 20 520 e refl (length-header (t .header) (k .header))) ∙ header-back (t .header) (k .header) in
+      ap headerIn (part-at b front (headerPart (t .header)) (slots ++ tags) 20 520 e refl (length-header (t .header) (k .header))) ∙ header-back (t .header) (k .header) in
       let ls : List LogicalPartition = t .«logical_partitions» in
-      let s : slotsIn b 24 ≡ ls = slots-back b (front ++ headerPart (t .header)) ls in-parts m₂ (k .slots) 24 (omega (arith, k .long)) ∙ take-all 24 ls (omega (arith, k .long)) in
+      let s : slotsIn b 24 ≡ ls = slots-back b (front ++ headerPart (t .header)) ls in-parts m₂ (k .slots) (k .long) 24 (omega arith) ∙ take-all 24 ls (omega (arith, k .long)) in
       λ i. record {
         «sector_size» = size i;
         header = h i;
@@ -272,7 +296,7 @@ module _ (t : MBR) (k : TableFits t) where
   -- and no check fails on it
   pub block-reads : t .count ≤ most → first-fail (blockChecks (blockBytes t)) ≡ none
   block-reads c =
-      rw (eq-eqb _ _ length-block, count-back, le-leb _ _ c, slots-tagged (blockBytes t) (front ++ headerPart (t .header)) (t .«logical_partitions») in-parts m₂ (k .slots) 0 24 (omega (arith, k .long)))
+      rw (eq-eqb _ _ length-block, count-back, le-leb _ _ c, slots-tagged (blockBytes t) (front ++ headerPart (t .header)) (t .«logical_partitions») in-parts m₂ (k .slots) (k .long) 0 24 (omega arith))
 
   -- so reading a block that was written answers the table
   pub block-gives : t .count ≤ most → answer (blockChecks (blockBytes t)) (tableIn (blockBytes t)) ≡ gives t

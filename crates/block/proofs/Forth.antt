@@ -3,13 +3,13 @@ use mathlib.Core.Path.{_≡_, refl, sym, ap, _∙_}
 use mathlib.Core.List.{List, [], _∷_, _++_}
 use mathlib.Core.Bool.{Bool, true, false, _&&_}
 use mathlib.Core.Option.{none}
-use Prim.Native.Nat.{ℕ, zero, suc, _+_, _*_, _≤_, _<_}
+use Prim.Native.Nat.{ℕ, zero, suc, _+_, _*_, _%_, _≤_, _<_}
 use native.Mathlib.Nat.{add-zero, zero-add, add-assoc}
 use native.Mathlib.Omega.{arith}
-use lib.Dec.{eqb, leb}
+use lib.Dec.{eqb, leb, ltb}
 use lib.ListN.{length, take, drop, getD, replicate, length-drop}
-use lib.Seq.{take-all, take-add, take-take, drop-drop, length-take-le}
-use borrow.Author.Tests.{eqb-true, eqb-false, leb-true}
+use lib.Seq.{take-all, take-suc, take-add, take-take, drop-drop, getD-drop, length-take-le}
+use borrow.Author.Tests.{eqb-true, eqb-false, leb-true, ltb-true, ltb-false}
 use Rattle.base.specs.Pick.{pick}
 use Rattle.base.specs.Bytes.{Bytes, bytesAt, number, bytesOf, little}
 use Rattle.base.specs.Checks.{first-fail}
@@ -19,9 +19,9 @@ use Rattle.ebr.specs.Ebr.{keptOf}
 use Rattle.mbr.specs.Mbr.{codeOf}
 use Rattle.table.specs.declared.MaybeSectors.the-variants.{Absent, Present}
 use Rattle.table.specs.declared.MaybeChs.the-variants.{Absent as NoChs, Present as SomeChs}
-use Rattle.block.specs.Block.{part, chsPart, chsIn, entryPart, entryIn, sectorsPart, sectorsIn, lastPart, lastIn, slotPart, slotOf, slotTagged, headerPart, headerIn, frontPart, slotsPart, slotAt, slotsIn, tagged, blockBytes, tableIn, blockChecks}
+use Rattle.block.specs.Block.{part, chsPart, chsIn, entryPart, entryIn, sectorsPart, sectorsTag, sectorsIn, lastPart, lastTag, lastIn, slotPart, slotOf, tagOf, headerPart, headerIn, frontPart, slotsPart, tagsPart, slotAt, tagAt, slotsIn, possible, tagged, blockBytes, tableIn, blockChecks}
 use Rattle.block.specs.Clean.{SlotClean, Clean}
-use Rattle.block.proofs.Laws.{slots-snoc}
+use Rattle.block.proofs.Laws.{slots-snoc, tags-snoc}
 
 -- the bytes of what is read are those bytes
 module _ (s : List ℕ) (b : Bytes s) where
@@ -41,29 +41,33 @@ module _ (s : List ℕ) (b : Bytes s) where
   entry-forth at =
       cc (two-forth (at + 1), two-forth (at + 6), four-forth (at + 10), four-forth (at + 14), add-assoc at 1 1, add-assoc at 1 2, add-assoc at 1 3, add-assoc at 6 1, add-assoc at 6 2, add-assoc at 6 3, add-assoc at 10 1, add-assoc at 10 2, add-assoc at 10 3, add-assoc at 14 1, add-assoc at 14 2, add-assoc at 14 3)
 
-  -- a tag that is neither 0 nor above 1
-  one-tag : (at : ℕ) → leb (getD s at 0) 1 ≡ true → eqb (getD s at 0) 0 ≡ false → getD s at 0 ≡ 1
-  one-tag at l n =
-      let p : getD s at 0 ≤ 1 = leb-true _ _ l in
-      let q : getD s at 0 ≡ 0 → ⊥ = eqb-false _ _ n in
-      omega (arith, p, q)
-
-  sectors-forth : leb (getD s 22 0) 1 ≡ true → (getD s 22 0 ≡ 0 → bytesAt s 22 5 ≡ replicate 5 0) → sectorsPart (sectorsIn s 22) ≡ bytesAt s 22 5
-  sectors-forth l z = go (eqb (getD s 22 0) 0) refl
+  sectors-forth : (tag : ℕ) → (tag % 2 ≡ 0 → bytesAt s 22 4 ≡ replicate 4 0) → sectorsPart (sectorsIn tag s 22) ≡ bytesAt s 22 4
+  sectors-forth tag z = go (eqb (tag % 2) 0) refl
     where
-      go : (t : Bool) → eqb (getD s 22 0) 0 ≡ t → sectorsPart (pick t Absent (Present (number little (bytesAt s 23 4)))) ≡ bytesAt s 22 5
+      go : (t : Bool) → eqb (tag % 2) 0 ≡ t → sectorsPart (pick t Absent (Present (number little (bytesAt s 22 4)))) ≡ bytesAt s 22 4
       go true e = sym (z (eqb-true _ _ e))
-      go false e = cc (four-forth 23, one-tag 22 l e)
+      go false e = four-forth 22
 
-  present-forth : getD s 31 0 ≡ 1 → lastPart (SomeChs (chsIn s 32)) ≡ bytesAt s 31 5
-  present-forth e = cc (chs-forth 32, e)
-
-  last-forth : leb (getD s 31 0) 1 ≡ true → (getD s 31 0 ≡ 0 → bytesAt s 31 5 ≡ replicate 5 0) → lastPart (lastIn s 31) ≡ bytesAt s 31 5
-  last-forth l z = go (eqb (getD s 31 0) 0) refl
+  last-forth : (tag : ℕ) → (tag < 2 → bytesAt s 30 4 ≡ replicate 4 0) → lastPart (lastIn tag s 30) ≡ bytesAt s 30 4
+  last-forth tag z = go (ltb tag 2) refl
     where
-      go : (t : Bool) → eqb (getD s 31 0) 0 ≡ t → lastPart (pick t NoChs (SomeChs (chsIn s 32))) ≡ bytesAt s 31 5
-      go true e = sym (z (eqb-true _ _ e))
-      go false e = present-forth (one-tag 31 l e)
+      go : (t : Bool) → ltb tag 2 ≡ t → lastPart (pick t NoChs (SomeChs (chsIn s 30))) ≡ bytesAt s 30 4
+      go true e = sym (z (ltb-true _ _ e))
+      go false e = chs-forth 30
+
+-- a possible tag is that of the partition in its slot
+tag-forth : (tag : ℕ) (s : List ℕ) → possible tag ≡ true → tagOf (slotOf tag s) ≡ tag
+tag-forth tag s p = go (eqb (tag % 2) 0) (ltb tag 2) refl refl
+  where
+    small : tag ≤ 3
+    small = leb-true _ _ p
+
+    go : (x y : Bool) → eqb (tag % 2) 0 ≡ x → ltb tag 2 ≡ y
+        → sectorsTag (pick x Absent (Present (number little (bytesAt s 22 4)))) + lastTag (pick y NoChs (SomeChs (chsIn s 30))) ≡ tag
+    go true true e f = omega (arith, small, eqb-true (tag % 2) 0 e, ltb-true tag 2 f)
+    go true false e f = omega (arith, small, eqb-true (tag % 2) 0 e, ltb-false tag 2 f)
+    go false true e f = omega (arith, small, eqb-false (tag % 2) 0 e, ltb-true tag 2 f)
+    go false false e f = omega (arith, small, eqb-false (tag % 2) 0 e, ltb-false tag 2 f)
 
 both : (a b : Bool) → (a && b) ≡ true → (a ≡ true) × (b ≡ true)
 both true b h = (refl, h)
@@ -87,12 +91,11 @@ part-is : (b : List ℕ) (at n : ℕ) → part b at n ≡ take n (drop at b)
 unfolding part
 part-is b at n = refl
 
-slot-forth : (s : List ℕ) → Bytes s → length s ≡ 482 → slotTagged s ≡ true → SlotClean s → slotPart (slotOf s) ≡ s
+slot-forth : (tag : ℕ) (s : List ℕ) → Bytes s → length s ≡ 480 → SlotClean tag s → slotPart (slotOf tag s) ≡ s
 unfolding slotPart
-slot-forth s b n t k =
-    let p = both (leb (getD s 22 0) 1) (leb (getD s 31 0) 1) t in
-    let there : (at m : ℕ) → at + m ≤ 482 → bytesAt s at m ≡ take m (drop at s) = λ at m h. bytesAt-part s at m (omega (arith, n)) in
-    let l = slotOf s in
+slot-forth tag s b n k =
+    let there : (at m : ℕ) → at + m ≤ 480 → bytesAt s at m ≡ take m (drop at s) = λ at m h. bytesAt-part s at m (omega (arith, n)) in
+    let l = slotOf tag s in
     let x₁ : List ℕ = entryPart (l .partition) in
     let x₂ : List ℕ = x₁ ++ bytesOf little 4 (l .«absolute_ebr_lba» .0) in
     let x₃ : List ℕ = x₂ ++ sectorsPart (l .«ebr_sectors») in
@@ -100,11 +103,11 @@ slot-forth s b n t k =
     let x₅ : List ℕ = x₄ ++ lastPart (l .«ebr_last_chs») in
     let y₁ : x₁ ≡ take 18 s = entry-forth s b 0 ∙ there 0 18 (omega arith) in
     let y₂ : x₂ ≡ take 22 s = parts-join s x₁ _ 18 4 22 y₁ (four-forth s b 18 ∙ there 18 4 (omega arith)) refl in
-    let y₃ : x₃ ≡ take 27 s = parts-join s x₂ _ 22 5 27 y₂ (sectors-forth s b (p .0) (k .sectors) ∙ there 22 5 (omega arith)) refl in
-    let y₄ : x₄ ≡ take 31 s = parts-join s x₃ _ 27 4 31 y₃ (chs-forth s b 27 ∙ there 27 4 (omega arith)) refl in
-    let y₅ : x₅ ≡ take 36 s = parts-join s x₄ _ 31 5 36 y₄ (last-forth s b (p .1) (k .last) ∙ there 31 5 (omega arith)) refl in
-    let c : l .kept .«bootstrap_code» ≡ take 446 (drop 36 s) = kept-forth (part s 36 446) (omega (arith, part-long s 36 446 (omega (arith, n)))) ∙ part-is s 36 446 in
-    parts-join s x₅ _ 36 446 482 y₅ c refl ∙ take-all 482 s (omega (arith, n))
+    let y₃ : x₃ ≡ take 26 s = parts-join s x₂ _ 22 4 26 y₂ (sectors-forth s b tag (k .sectors) ∙ there 22 4 (omega arith)) refl in
+    let y₄ : x₄ ≡ take 30 s = parts-join s x₃ _ 26 4 30 y₃ (chs-forth s b 26 ∙ there 26 4 (omega arith)) refl in
+    let y₅ : x₅ ≡ take 34 s = parts-join s x₄ _ 30 4 34 y₄ (last-forth s b tag (k .last) ∙ there 30 4 (omega arith)) refl in
+    let c : l .kept .«bootstrap_code» ≡ take 446 (drop 34 s) = kept-forth (part s 34 446) (omega (arith, part-long s 34 446 (omega (arith, n)))) ∙ part-is s 34 446 in
+    parts-join s x₅ _ 34 446 480 y₅ c refl ∙ take-all 480 s (omega (arith, n))
 
 code-forth : (s : List ℕ) → codeOf s ≡ take 440 s
 unfolding codeOf
@@ -130,36 +133,47 @@ header-forth s b n =
     let y₄ : x₃ ++ (e₁ ++ e₂ ++ e₃ ++ e₄) ≡ take 518 s = parts-join s x₃ (e₁ ++ e₂ ++ e₃ ++ e₄) 446 72 518 y₃ w₄ refl in
     parts-join s (x₃ ++ (e₁ ++ e₂ ++ e₃ ++ e₄)) (bytesAt s 518 2) 518 2 520 y₄ (there 518 2 (omega arith)) refl ∙ take-all 520 s (omega (arith, n))
 
--- each slot is tagged
-pub tagged-at : (b : List ℕ) (i n k : ℕ) → tagged b i n ≡ true → k < n → slotTagged (slotAt b (i + k)) ≡ true
+-- each tag is possible
+pub tagged-at : (b : List ℕ) (i n k : ℕ) → tagged b i n ≡ true → k < n → possible (tagAt b (i + k)) ≡ true
 unfolding tagged
 tagged-at b i zero k t h = absurd (omega arith)
-tagged-at b i (suc n) zero t h = ap (λ (j : ℕ). slotTagged (slotAt b j)) (add-zero i) ∙ both (slotTagged (slotAt b i)) (tagged b (suc i) n) t .0
+tagged-at b i (suc n) zero t h = ap (λ (j : ℕ). possible (tagAt b j)) (add-zero i) ∙ both (possible (tagAt b i)) (tagged b (suc i) n) t .0
 tagged-at b i (suc n) (suc k) t h =
     let z : i + suc k ≡ suc i + k = omega arith in
-    ap (λ (j : ℕ). slotTagged (slotAt b j)) z ∙ tagged-at b (suc i) n k (both (slotTagged (slotAt b i)) (tagged b (suc i) n) t .1) (omega arith)
+    ap (λ (j : ℕ). possible (tagAt b j)) z ∙ tagged-at b (suc i) n k (both (possible (tagAt b i)) (tagged b (suc i) n) t .1) (omega arith)
 
 module _ (b : List ℕ) (k : Bytes b) (f : first-fail (blockChecks b) ≡ none) (c : Clean b) where
-  long : length b ≡ 12108
+  long : length b ≡ 12084
   long = eqb-true _ _ (none-fails (blockChecks b) f .0)
 
   tags : tagged b 0 24 ≡ true
   tags = none-fails (blockChecks b) f .1 .1 .0
 
-  slot-there : (n : ℕ) → n < 24 → slotPart (slotOf (slotAt b n)) ≡ take 482 (drop (482 * n) (drop 540 b))
+  slot-there : (n : ℕ) → n < 24 → slotPart (slotOf (tagAt b n) (slotAt b n)) ≡ take 480 (drop (480 * n) (drop 540 b))
   slot-there n h =
-      let l : 540 + 482 * n + 482 ≤ length b = omega (arith, long) in
-      let t : slotTagged (slotAt b n) ≡ true = ap (λ (j : ℕ). slotTagged (slotAt b j)) (sym (zero-add n)) ∙ tagged-at b 0 24 n tags h in
-      slot-forth (slotAt b n) (part-bytes b (540 + 482 * n) 482 k) (part-long b (540 + 482 * n) 482 l) t (c n h)
-      ∙ part-is b (540 + 482 * n) 482 ∙ ap (take 482) (sym (drop-drop (482 * n) 540 b))
+      let l : 540 + 480 * n + 480 ≤ length b = omega (arith, long) in
+      slot-forth (tagAt b n) (slotAt b n) (part-bytes b (540 + 480 * n) 480 k) (part-long b (540 + 480 * n) 480 l) (c n h)
+      ∙ part-is b (540 + 480 * n) 480 ∙ ap (take 480) (sym (drop-drop (480 * n) 540 b))
 
-  slots-forth : (n : ℕ) → n ≤ 24 → slotsPart (slotsIn b n) ≡ take (482 * n) (drop 540 b)
+  slots-forth : (n : ℕ) → n ≤ 24 → slotsPart (slotsIn b n) ≡ take (480 * n) (drop 540 b)
   unfolding slotsIn slotsPart
   slots-forth zero h = refl
   slots-forth (suc n) h =
-      let s = slotOf (slotAt b n) in
-      let z : 482 * n + 482 ≡ 482 * suc n = omega arith in
-      slots-snoc (slotsIn b n) s ∙ parts-join (drop 540 b) (slotsPart (slotsIn b n)) (slotPart s) (482 * n) 482 (482 * suc n) (slots-forth n (omega arith)) (slot-there n (omega arith)) z
+      let s = slotOf (tagAt b n) (slotAt b n) in
+      let z : 480 * n + 480 ≡ 480 * suc n = omega arith in
+      slots-snoc (slotsIn b n) s ∙ parts-join (drop 540 b) (slotsPart (slotsIn b n)) (slotPart s) (480 * n) 480 (480 * suc n) (slots-forth n (omega arith)) (slot-there n (omega arith)) z
+
+  tags-forth : (n : ℕ) → n ≤ 24 → tagsPart (slotsIn b n) ≡ take n (drop 12060 b)
+  unfolding slotsIn tagsPart
+  tags-forth zero h = refl
+  tags-forth (suc n) h =
+      let s = slotOf (tagAt b n) (slotAt b n) in
+      let t : possible (tagAt b n) ≡ true = ap (λ (j : ℕ). possible (tagAt b j)) (sym (zero-add n)) ∙ tagged-at b 0 24 n tags (omega arith) in
+      let u : n < length (drop 12060 b) = omega (arith, length-drop 12060 b, long) in
+      tags-snoc (slotsIn b n) s
+      ∙ ap (λ (x : List ℕ). x ++ (tagOf s ∷ [])) (tags-forth n (omega arith))
+      ∙ ap (λ (v : ℕ). take n (drop 12060 b) ++ (v ∷ [])) (tag-forth (tagAt b n) (slotAt b n) t ∙ sym (getD-drop 12060 b n 0))
+      ∙ sym (take-suc (drop 12060 b) n 0 u)
 
   -- a block is that of the table in it
   pub block-forth : blockBytes (tableIn b) ≡ b
@@ -173,4 +187,6 @@ module _ (b : List ℕ) (k : Bytes b) (f : first-fail (blockChecks b) ≡ none) 
       let y₁ : x₁ ≡ take 20 b = e₁ ∙ bytesAt-part b 0 20 (omega (arith, long)) in
       let e₂ : h ≡ take 520 (drop 20 b) = header-forth (part b 20 520) (part-bytes b 20 520 k) (part-long b 20 520 (omega (arith, long))) ∙ part-is b 20 520 in
       let y₂ : x₂ ≡ take 540 b = parts-join b x₁ h 20 520 540 y₁ e₂ refl in
-      parts-join b x₂ (slotsPart (slotsIn b 24)) 540 11568 12108 y₂ (slots-forth 24 (omega arith)) refl ∙ take-all 12108 b (omega (arith, long))
+      let x₃ : List ℕ = x₂ ++ slotsPart (slotsIn b 24) in
+      let y₃ : x₃ ≡ take 12060 b = parts-join b x₂ (slotsPart (slotsIn b 24)) 540 11520 12060 y₂ (slots-forth 24 (omega arith)) refl in
+      parts-join b x₃ (tagsPart (slotsIn b 24)) 12060 24 12084 y₃ (tags-forth 24 (omega arith)) refl ∙ take-all 12084 b (omega (arith, long))

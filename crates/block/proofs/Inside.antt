@@ -14,7 +14,7 @@ use Rattle.entry.specs.Entry.{noEntry}
 use Rattle.mbr.specs.Mbr.{primaries}
 use Rattle.table.specs.declared.LogicalPartition.{LogicalPartition}
 use Rattle.table.specs.Table.{most, noLogical}
-use Rattle.block.specs.Block.{part, entryIn, headerIn, slotOf, slotAt, slotsIn, tableIn}
+use Rattle.block.specs.Block.{part, entryIn, headerIn, slotOf, slotAt, tagAt, slotsIn, tableIn}
 
 -- the front
 pub size-in : (b : List ℕ) → tableIn b .«sector_size» ≡ number little (bytesAt b 0 4)
@@ -66,25 +66,25 @@ slots-in b = refl
 pub slots-long : (b : List ℕ) (n : ℕ) → length (slotsIn b n) ≡ n
 unfolding slotsIn
 slots-long b zero = refl
-slots-long b (suc n) = length-append (slotsIn b n) (slotOf (slotAt b n) ∷ []) ∙ omega (arith, slots-long b n)
+slots-long b (suc n) = length-append (slotsIn b n) (slotOf (tagAt b n) (slotAt b n) ∷ []) ∙ omega (arith, slots-long b n)
 
-slot-last : (b : List ℕ) (n i : ℕ) → (i < n → getD (slotsIn b n) i noLogical ≡ slotOf (slotAt b i)) → i < suc n
-    → getD (slotsIn b n ++ (slotOf (slotAt b n) ∷ [])) i noLogical ≡ slotOf (slotAt b i)
+slot-last : (b : List ℕ) (n i : ℕ) → (i < n → getD (slotsIn b n) i noLogical ≡ slotOf (tagAt b i) (slotAt b i)) → i < suc n
+    → getD (slotsIn b n ++ (slotOf (tagAt b n) (slotAt b n) ∷ [])) i noLogical ≡ slotOf (tagAt b i) (slotAt b i)
 slot-last b n i f h = go (ltb i n) refl
   where
-    go : (t : Bool) → ltb i n ≡ t → getD (slotsIn b n ++ (slotOf (slotAt b n) ∷ [])) i noLogical ≡ slotOf (slotAt b i)
+    go : (t : Bool) → ltb i n ≡ t → getD (slotsIn b n ++ (slotOf (tagAt b n) (slotAt b n) ∷ [])) i noLogical ≡ slotOf (tagAt b i) (slotAt b i)
     go true e =
         let p : i < n = ltb-true _ _ e in
-        List·getD-append (slotsIn b n) (slotOf (slotAt b n) ∷ []) noLogical i (omega (arith, slots-long b n, p)) ∙ f p
+        List·getD-append (slotsIn b n) (slotOf (tagAt b n) (slotAt b n) ∷ []) noLogical i (omega (arith, slots-long b n, p)) ∙ f p
     go false e =
         let q : n ≤ i = ltb-false _ _ e in
         let z : i ≡ n = omega (arith, q, h) in
-        rw z (getD-at (slotsIn b n) (slotOf (slotAt b n)) [] noLogical n (slots-long b n))
+        rw z (getD-at (slotsIn b n) (slotOf (tagAt b n) (slotAt b n)) [] noLogical n (slots-long b n))
 
-slot-of : (b : List ℕ) (n i : ℕ) → i < n → getD (slotsIn b n) i noLogical ≡ slotOf (slotAt b i)
+slot-of : (b : List ℕ) (n i : ℕ) → i < n → getD (slotsIn b n) i noLogical ≡ slotOf (tagAt b i) (slotAt b i)
 unfolding slotsIn
 slot-of b zero i h = absurd (omega arith)
 slot-of b (suc n) i h = slot-last b n i (slot-of b n i) h
 
-pub slot-in : (b : List ℕ) (i : ℕ) → i < most → getD (tableIn b .«logical_partitions») i noLogical ≡ slotOf (slotAt b i)
+pub slot-in : (b : List ℕ) (i : ℕ) → i < most → getD (tableIn b .«logical_partitions») i noLogical ≡ slotOf (tagAt b i) (slotAt b i)
 slot-in b i h = ap (λ (ls : List LogicalPartition). getD ls i noLogical) (slots-in b) ∙ slot-of b most i h

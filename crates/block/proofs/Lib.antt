@@ -2,3 +2,5 @@ pub mod Laws
 pub mod Inside
 pub mod Back
 pub mod Forth
+pub mod Over
+pub mod Slots

@@ -1,14 +1,15 @@
--- The table block: a table as 12,108 bytes at fixed offsets, every number little-endian. Assumes nothing.
-use Prim.Native.Nat.{ℕ, zero, suc, _+_, _*_}
+-- The table block: a table as 12,084 bytes at fixed offsets, every number little-endian. Assumes nothing.
+use Prim.Native.Nat.{ℕ, zero, suc, _+_, _*_, _%_}
 use mathlib.Core.List.{List, [], _∷_, _++_}
 use mathlib.Core.Bool.{Bool, true, _&&_}
-use lib.Dec.{eqb, leb}
-use lib.ListN.{length, getD, take, drop, replicate}
+use lib.Dec.{eqb, leb, ltb}
+use lib.ListN.{length, getD, take, drop}
 use Rattle.base.specs.Pick.{pick}
 use Rattle.base.specs.Bytes.{bytesAt, number, bytesOf, little}
+use Rattle.base.specs.Put.{put}
 use Rattle.base.specs.Checks.{Check, _!_}
 use Rattle.chs.specs.declared.CHS.{CHS}
-use Rattle.chs.specs.Chs.{chs}
+use Rattle.chs.specs.Chs.{chs, noChs}
 use Rattle.entry.specs.declared.MBRPartitionEntry.{MBRPartitionEntry}
 use Rattle.ebr.specs.Ebr.{keptOf}
 use Rattle.mbr.specs.declared.MBRHeader.{MBRHeader}
@@ -21,9 +22,9 @@ use Rattle.table.specs.declared.LogicalPartition.{LogicalPartition}
 use Rattle.table.specs.declared.MBR.{MBR}
 use Rattle.table.specs.Table.{most}
 
--- front 20, header 520, 24 slots of 482
+-- front 20, header 520, 24 slots of 480, 24 tags
 abbrev pub blockLength : ℕ
-blockLength = 12108
+blockLength = 12084
 
 -- the n bytes from index at on
 unfoldable pub part : List ℕ → ℕ → ℕ → List ℕ
@@ -52,22 +53,34 @@ entryIn s at =
       sectors = number little (bytesAt s (at + 14) 4);
     }
 
--- a tag, 0 absent or 1 present, and the value; an absent one's bytes are zero when written and ignored when read
+-- a value that may be absent: its bytes are zero then when written, and ignored when read
 abbrev pub sectorsPart : MaybeSectors → List ℕ
-sectorsPart Absent = replicate 5 0
-sectorsPart (Present v) = (1 ∷ []) ++ bytesOf little 4 v
-
-abbrev pub sectorsIn : List ℕ → ℕ → MaybeSectors
-sectorsIn s at = pick (eqb (getD s at 0) 0) Absent (Present (number little (bytesAt s (at + 1) 4)))
+sectorsPart Absent = bytesOf little 4 0
+sectorsPart (Present v) = bytesOf little 4 v
 
 abbrev pub lastPart : MaybeChs → List ℕ
-lastPart NoChs = replicate 5 0
-lastPart (SomeChs c) = (1 ∷ []) ++ chsPart c
+lastPart NoChs = chsPart noChs
+lastPart (SomeChs c) = chsPart c
 
-abbrev pub lastIn : List ℕ → ℕ → MaybeChs
-lastIn s at = pick (eqb (getD s at 0) 0) NoChs (SomeChs (chsIn s (at + 1)))
+-- a slot's tag tells which of the two is there: 1 the link sectors, 2 the last link address, 3 both, 0 none
+abbrev pub sectorsTag : MaybeSectors → ℕ
+sectorsTag Absent = 0
+sectorsTag (Present v) = 1
 
--- a slot of 482: entry, EBR place, link sectors, first and last link address, code
+abbrev pub lastTag : MaybeChs → ℕ
+lastTag NoChs = 0
+lastTag (SomeChs c) = 2
+
+abbrev pub tagOf : LogicalPartition → ℕ
+tagOf l = sectorsTag (l .«ebr_sectors») + lastTag (l .«ebr_last_chs»)
+
+abbrev pub sectorsIn : ℕ → List ℕ → ℕ → MaybeSectors
+sectorsIn tag s at = pick (eqb (tag % 2) 0) Absent (Present (number little (bytesAt s at 4)))
+
+abbrev pub lastIn : ℕ → List ℕ → ℕ → MaybeChs
+lastIn tag s at = pick (ltb tag 2) NoChs (SomeChs (chsIn s at))
+
+-- a slot of 480: entry, EBR place, link sectors, first and last link address, code
 abbrev pub slotFront : LogicalPartition → List ℕ
 slotFront l =
     entryPart (l .partition) ++ bytesOf little 4 (l .«absolute_ebr_lba» .0) ++ sectorsPart (l .«ebr_sectors») ++ chsPart (l .«ebr_first_chs»)
@@ -76,20 +89,17 @@ slotFront l =
 unfoldable pub slotPart : LogicalPartition → List ℕ
 slotPart l = slotFront l ++ l .kept .«bootstrap_code»
 
-abbrev pub slotOf : List ℕ → LogicalPartition
-slotOf s =
+-- the logical partition in a slot with its tag
+abbrev pub slotOf : ℕ → List ℕ → LogicalPartition
+slotOf tag s =
     record {
       partition = entryIn s 0;
       «absolute_ebr_lba» = record { 0 = number little (bytesAt s 18 4) };
-      «ebr_sectors» = sectorsIn s 22;
-      «ebr_first_chs» = chsIn s 27;
-      «ebr_last_chs» = lastIn s 31;
-      kept = keptOf (part s 36 446);
+      «ebr_sectors» = sectorsIn tag s 22;
+      «ebr_first_chs» = chsIn s 26;
+      «ebr_last_chs» = lastIn tag s 30;
+      kept = keptOf (part s 34 446);
     }
-
--- both tags of a slot are 0 or 1
-abbrev pub slotTagged : List ℕ → Bool
-slotTagged s = leb (getD s 22 0) 1 && leb (getD s 31 0) 1
 
 -- the header of 520: code, disk signature, copy mark, four entries, signature
 abbrev pub codePart : MBRHeader → List ℕ
@@ -121,30 +131,49 @@ frontPart size disk align count cylinders heads sectors =
     bytesOf little 4 size ++ bytesOf little 4 disk ++ bytesOf little 4 align ++ bytesOf little 4 count ++ bytesOf little 2 cylinders
     ++ (heads ∷ sectors ∷ [])
 
--- every slot, the unused ones too
+-- every slot, the unused ones too, and the tag of each
 unfoldable pub slotsPart : List LogicalPartition → List ℕ
 slotsPart [] = []
 slotsPart (l ∷ ls) = slotPart l ++ slotsPart ls
 
--- the bytes of slot i
+unfoldable pub tagsPart : List LogicalPartition → List ℕ
+tagsPart [] = []
+tagsPart (l ∷ ls) = tagOf l ∷ tagsPart ls
+
+-- the bytes of slot i, and its tag
 abbrev pub slotAt : List ℕ → ℕ → List ℕ
-slotAt b i = part b (540 + 482 * i) 482
+slotAt b i = part b (540 + 480 * i) 480
+
+abbrev pub tagAt : List ℕ → ℕ → ℕ
+tagAt b i = getD b (12060 + i) 0
+
+-- a block with a logical partition in slot i
+unfoldable pub slotPut : List ℕ → ℕ → LogicalPartition → List ℕ
+slotPut b i l = put (put b (540 + 480 * i) (slotPart l)) (12060 + i) (tagOf l ∷ [])
+
+-- a block with logical partitions in its first slots
+unfoldable pub slotsPut : List ℕ → List LogicalPartition → List ℕ
+slotsPut b ls = put (put b 540 (slotsPart ls)) 12060 (tagsPart ls)
 
 -- the first n slots
 unfoldable pub slotsIn : List ℕ → ℕ → List LogicalPartition
 slotsIn b zero = []
-slotsIn b (suc n) = slotsIn b n ++ (slotOf (slotAt b n) ∷ [])
+slotsIn b (suc n) = slotsIn b n ++ (slotOf (tagAt b n) (slotAt b n) ∷ [])
 
--- n slots from slot i on have tags 0 or 1
+-- a tag from 0 to 3
+abbrev pub possible : ℕ → Bool
+possible tag = leb tag 3
+
+-- n tags from that of slot i on are possible
 unfoldable pub tagged : List ℕ → ℕ → ℕ → Bool
 tagged b i zero = true
-tagged b i (suc n) = slotTagged (slotAt b i) && tagged b (suc i) n
+tagged b i (suc n) = possible (tagAt b i) && tagged b (suc i) n
 
 -- the block of a table
 unfoldable pub blockBytes : MBR → List ℕ
 blockBytes t =
     frontPart (t .«sector_size») (t .«disk_size») (t .align) (t .count) (t .cylinders) (t .heads) (t .sectors)
-    ++ headerPart (t .header) ++ slotsPart (t .«logical_partitions»)
+    ++ headerPart (t .header) ++ slotsPart (t .«logical_partitions») ++ tagsPart (t .«logical_partitions»)
 
 -- the table in a block
 unfoldable pub tableIn : List ℕ → MBR

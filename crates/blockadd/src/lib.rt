@@ -10,7 +10,7 @@ ghost use Rattle.inblock.specs.Changed.{withSlot};
 
 // A logical partition behind n others that has no code: its zeros are put from here, and not carried along.
 pub fn add_new(b: &mut [u8], n: usize, l: LogicalPartition)
-    requires { ⌜ (length (now b) ≡ 12108) × (n < 24) × (l .kept ≡ noKept) ⌝ }
+    requires { ⌜ (length (now b) ≡ 12084) × (n < 24) × (l .kept ≡ noKept) ⌝ }
     ensures { λ _. ⌜ now (b .exit) ≡ withSlot (now (b .entry)) n l ⌝ }
 {
     let e = l.partition;

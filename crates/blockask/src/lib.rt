@@ -8,7 +8,7 @@ ghost use Rattle.push.specs.Push.{requestOf};
 
 // What a push on the table in a block asks for.
 pub fn request_in(b: &[u8], sys: u8, start: u32, sectors: u32) -> Request
-    requires { ⌜ length (now b) ≡ 12108 ⌝ }
+    requires { ⌜ length (now b) ≡ 12084 ⌝ }
     ensures { λ r. ⌜ r ≡ requestOf (tableIn (now (b .entry))) sys start sectors ⌝ }
 {
     let align = base::get32(b, 8);

@@ -11,7 +11,7 @@ ghost use Rattle.packed.specs.Packed.{packed, packedOption};
 const NONE: u8 = 255;
 
 pub fn find_on(b: &[u8], sector: u32) -> u64
-    requires { ⌜ (length (now b) ≡ 12108) × (tableIn (now b) .count ≤ 24) ⌝ }
+    requires { ⌜ (length (now b) ≡ 12084) × (tableIn (now b) .count ≤ 24) ⌝ }
     ensures { λ r. ⌜ r ≡ packedOption (findSays (tableIn (now (b .entry))) sector) ⌝ }
 {
     match spot::find(b, sector) {

@@ -12,7 +12,7 @@ ghost use Rattle.blockfree.specs.Free.{runsFor, howMany, runsAfter};
 pub const ROOM: usize = 240;
 
 pub fn free_on(b: &[u8], out: &mut [u8]) -> u64
-    requires { ⌜ (length (now b) ≡ 12108) × (tableIn (now b) .count ≤ 24) ⌝ }
+    requires { ⌜ (length (now b) ≡ 12084) × (tableIn (now b) .count ≤ 24) ⌝ }
     ensures { λ r. ⌜ r ≡ packed (howMany (runsFor (gives (tableIn (now (b .entry)))) (length (now (out .entry))))) ⌝ }
     ensures { λ r. ⌜ now (out .exit) ≡ runsAfter (now (out .entry)) (runsFor (gives (tableIn (now (b .entry)))) (length (now (out .entry)))) ⌝ }
 {

@@ -10,7 +10,7 @@ ghost use Rattle.push.specs.Answers.{checkGeometrySays, cylinderSizeSays};
 ghost use Rattle.packed.specs.Packed.{packed, packedBool};
 
 pub fn len_on(b: &[u8]) -> u64
-    requires { ⌜ (length (now b) ≡ 12108) × (tableIn (now b) .count ≤ 24) ⌝ }
+    requires { ⌜ (length (now b) ≡ 12084) × (tableIn (now b) .count ≤ 24) ⌝ }
     ensures { λ r. ⌜ r ≡ packed (lenSays (tableIn (now (b .entry)))) ⌝ }
 {
     let n = inside::count(b);
@@ -18,7 +18,7 @@ pub fn len_on(b: &[u8]) -> u64
 }
 
 pub fn geometry(b: &[u8]) -> Geometry
-    requires { ⌜ length (now b) ≡ 12108 ⌝ }
+    requires { ⌜ length (now b) ≡ 12084 ⌝ }
     ensures { λ r. ⌜ r ≡ geometryOf (tableIn (now (b .entry))) ⌝ }
 {
     let cylinders = base::get16(b, 16);
@@ -30,7 +30,7 @@ pub fn geometry(b: &[u8]) -> Geometry
 }
 
 pub fn check_on(b: &[u8]) -> u64
-    requires { ⌜ (length (now b) ≡ 12108) × (tableIn (now b) .count ≤ 24) ⌝ }
+    requires { ⌜ (length (now b) ≡ 12084) × (tableIn (now b) .count ≤ 24) ⌝ }
     ensures { λ r. ⌜ r ≡ packedBool (checkGeometrySays (tableIn (now (b .entry)))) ⌝ }
 {
     let g = geometry(b);
@@ -41,7 +41,7 @@ pub fn check_on(b: &[u8]) -> u64
 }
 
 pub fn size_on(b: &[u8]) -> u64
-    requires { ⌜ (length (now b) ≡ 12108) × (tableIn (now b) .count ≤ 24) ⌝ }
+    requires { ⌜ (length (now b) ≡ 12084) × (tableIn (now b) .count ≤ 24) ⌝ }
     ensures { λ r. ⌜ r ≡ packed (cylinderSizeSays (tableIn (now (b .entry)))) ⌝ }
 {
     let n = base::wide(b[18]) * base::wide(b[19]);

@@ -29,7 +29,7 @@ pub fn put_found(e: MBRPartitionEntry, out: &mut [u8]) -> u8
 }
 
 pub fn get_on(b: &[u8], number: u32, out: &mut [u8]) -> u8
-    requires { ⌜ (length (now b) ≡ 12108) × (tableIn (now b) .count ≤ 24) ⌝ }
+    requires { ⌜ (length (now b) ≡ 12084) × (tableIn (now b) .count ≤ 24) ⌝ }
     ensures { λ r. ⌜ r ≡ entryStatus (length (now (out .entry))) (getSays (tableIn (now (b .entry))) number) ⌝ }
     ensures { λ r. ⌜ now (out .exit) ≡ entryAfter (now (out .entry)) (getSays (tableIn (now (b .entry))) number) ⌝ }
 {

@@ -5,13 +5,12 @@ use mathlib.Core.List.{List, _++_}
 use Prim.Native.Nat.{ℕ, _+_, _≤_}
 use native.Mathlib.Omega.{arith}
 use lib.ListN.{length, drop}
-use Rattle.base.specs.Put.{put}
 use Rattle.base.specs.Said.{gives}
 use Rattle.base.specs.Checks.{first-fail}
 use Rattle.entry.specs.declared.MBRPartitionEntry.{MBRPartitionEntry}
 use Rattle.table.specs.declared.LogicalPartition.{LogicalPartition}
 use Rattle.table.specs.Table.{extendedIn, withLogicals}
-use Rattle.block.specs.Block.{slotsPart, tableIn, blockChecks}
+use Rattle.block.specs.Block.{slotsPut, tableIn, blockChecks}
 use Rattle.block.specs.Fits.{SlotsFit}
 use Rattle.settled.specs.Settle.{relisted, settledIn}
 use Rattle.settled.proofs.Laws.{held-long, settled-long}
@@ -40,12 +39,13 @@ module _ (b : List ℕ) (h : first-fail (blockChecks b) ≡ none) where
     few : 0 + length ls ≤ 24
     few = omega (arith, many, passed b h .few)
 
-    settled-says : blockSays (put b 540 (slotsPart ls)) ≡ gives (relisted (tableIn b) ls)
+    settled-says : blockSays (slotsPut b ls) ≡ gives (relisted (tableIn b) ls)
+    unfolding slotsPut
     settled-says =
         let n : 0 + length ls ≡ tableIn b .count = omega (arith, many) in
-        good-says (put b 540 (slotsPart ls)) (relisted (tableIn b) ls) (slots-good b ls 0 (passed b h) f few)
+        good-says (slotsPut b ls) (relisted (tableIn b) ls) (slots-good b ls 0 (passed b h) f few)
         (slots-put b ls 0 (passed b h) f few ∙ ap (λ (n : ℕ). withLogicals (tableIn b) (ls ++ drop n (tableIn b .«logical_partitions»)) (tableIn b .count)) n)
 
-  pub left-some : (e : MBRPartitionEntry) (c : List ℕ) → extendedIn (tableIn b) ≡ some e → c ≡ put b 540 (slotsPart (settledIn (tableIn b) (e .«starting_lba»)))
+  pub left-some : (e : MBRPartitionEntry) (c : List ℕ) → extendedIn (tableIn b) ≡ some e → c ≡ slotsPut b (settledIn (tableIn b) (e .«starting_lba»))
       → SlotsFit (settledIn (tableIn b) (e .«starting_lba»)) → Left b c (extendedIn (tableIn b))
   left-some e c i p f = subst (Left b c) (sym i) (p, ap blockSays p ∙ settled-says (e .«starting_lba») f)

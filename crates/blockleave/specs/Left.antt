@@ -2,13 +2,12 @@
 use Prim.Native.Nat.{ℕ}
 use mathlib.Core.List.{List}
 use mathlib.Core.Option.{Option, none, some}
-use Rattle.base.specs.Put.{put}
 use Rattle.entry.specs.declared.MBRPartitionEntry.{MBRPartitionEntry}
 use Rattle.table.specs.declared.MBR.{MBR}
-use Rattle.block.specs.Block.{slotsPart}
+use Rattle.block.specs.Block.{slotsPut}
 use Rattle.settled.specs.Settle.{settledIn}
 
 -- the slots of the table t in a block, as writing leaves them; as before without an extended entry
 abbrev pub leftIn : Option MBRPartitionEntry → List ℕ → MBR → List ℕ
 leftIn none b t = b
-leftIn (some e) b t = put b 540 (slotsPart (settledIn t (e .«starting_lba»)))
+leftIn (some e) b t = slotsPut b (settledIn t (e .«starting_lba»))

@@ -29,7 +29,7 @@ pub fn remove_on(b: &mut [u8], i: u32) -> u8
 
 // A block without partition number n.
 pub fn remove_number(b: &mut [u8], n: usize)
-    requires { ⌜ (length (now b) ≡ 12108) × (tableIn (now b) .count ≤ 24) × (1 ≤ n) × (n < 5 + tableIn (now b) .count) ⌝ }
+    requires { ⌜ (length (now b) ≡ 12084) × (tableIn (now b) .count ≤ 24) × (1 ≤ n) × (n < 5 + tableIn (now b) .count) ⌝ }
     ensures { λ _. ⌜ now (b .exit) ≡ withoutNumber (now (b .entry)) (tableIn (now (b .entry)) .count) n ⌝ }
 {
     if n < 5 {

@@ -23,7 +23,7 @@ pub enum Which {
 pub const NONE: u8 = 255;
 
 pub fn place_of(b: &[u8], which: Which, size: u32) -> Place
-    requires { ⌜ (length (now b) ≡ 12108) × (tableIn (now b) .count ≤ 24) ⌝ }
+    requires { ⌜ (length (now b) ≡ 12084) × (tableIn (now b) .count ≤ 24) ⌝ }
     ensures { λ r. ⌜ placeSaid r ≡ placeBy which (tableIn (now (b .entry))) size ⌝ }
 {
     let f = room::free_of(b);

@@ -18,7 +18,7 @@ pub enum Whose {
 }
 
 pub fn size_of(b: &[u8], whose: Whose) -> Size
-    requires { ⌜ (length (now b) ≡ 12108) × (tableIn (now b) .count ≤ 24) ⌝ }
+    requires { ⌜ (length (now b) ≡ 12084) × (tableIn (now b) .count ≤ 24) ⌝ }
     ensures { λ r. ⌜ sizeSaid r ≡ sizeFor whose (tableIn (now (b .entry))) ⌝ }
 {
     let f = room::free_of(b);

@@ -12,7 +12,7 @@ ghost use Rattle.block.specs.Block.{blockBytes, putChecks};
 
 // The whole block.
 pub fn put_all(d: &mut [u8], t: MBR)
-    requires { ⌜ (length (now d) ≡ 12108) × (t .count ≤ 24) ⌝ }
+    requires { ⌜ (length (now d) ≡ 12084) × (t .count ≤ 24) ⌝ }
     ensures { λ _. ⌜ now (d .exit) ≡ blockBytes t ⌝ }
 {
     let n = t.count as u32;

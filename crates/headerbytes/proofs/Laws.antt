@@ -23,7 +23,7 @@ part-put d xs at n l h =
     let q = drop (at + length xs) d in
     ap (λ (z : List ℕ). take n (drop at z)) (append-assoc (take at d) xs q) ∙ ap (take n) (drop-at (take at d) (xs ++ q) at (length-take-le at d h)) ∙ take-at xs q n l
 
-pub header-put : (z block out new : List ℕ) (h : MBRHeader) → length z ≡ 12108 → length out ≡ 520 → (block ≡ put z 20 (headerPart h)) × (length (headerPart h) ≡ 520)
+pub header-put : (z block out new : List ℕ) (h : MBRHeader) → length z ≡ 12084 → length out ≡ 520 → (block ≡ put z 20 (headerPart h)) × (length (headerPart h) ≡ 520)
     → new ≡ put out 0 (take 520 (drop 20 block)) → new ≡ headerPart h
 header-put z block out new h l n p q =
     let e : take 520 (drop 20 block) ≡ headerPart h = ap (λ (b : List ℕ). take 520 (drop 20 b)) (p .0) ∙ part-put z (headerPart h) 20 520 (p .1) (omega arith) in

@@ -16,14 +16,14 @@ use Rattle.mbr.specs.declared.MBRHeader.{MBRHeader}
 use Rattle.table.specs.declared.LogicalPartition.{LogicalPartition}
 use Rattle.table.specs.declared.MBR.{MBR}
 use Rattle.table.specs.Table.{most, noLogical}
-use Rattle.block.specs.Block.{headerIn, slotOf, slotTagged, slotAt, tagged, tableIn, blockChecks}
+use Rattle.block.specs.Block.{headerIn, slotOf, slotAt, tagAt, possible, tagged, tableIn, blockChecks}
 use Rattle.block.specs.Clean.{SlotClean, Clean}
 use Rattle.block.proofs.Forth.{tagged-at}
 use Rattle.block.proofs.Inside.{size-in, disk-in, align-in, count-in, cylinders-in, heads-in, sectors-in, header-in, slots-in, slots-long, slot-in}
-use Rattle.inblock.proofs.Over.{Alike, bytes-alike, part-alike}
+use Rattle.block.proofs.Over.{Alike, bytes-alike, part-alike}
 
 -- the slots are those of a list
-pub slots-are : (b : List ℕ) (ls : List LogicalPartition) → length ls ≡ 24 → ((i : ℕ) → i < 24 → slotOf (slotAt b i) ≡ getD ls i noLogical)
+pub slots-are : (b : List ℕ) (ls : List LogicalPartition) → length ls ≡ 24 → ((i : ℕ) → i < 24 → slotOf (tagAt b i) (slotAt b i) ≡ getD ls i noLogical)
     → tableIn b .«logical_partitions» ≡ ls
 slots-are b ls l f =
     let n : length (tableIn b .«logical_partitions») ≡ 24 = ap length (slots-in b) ∙ slots-long b most in
@@ -32,17 +32,40 @@ slots-are b ls l f =
     let k : i < 24 = omega (arith, n) in
     slot-in b i k ∙ f i k)
 
-module _ (a b : List ℕ) (k : length a ≡ 12108) (l : length b ≡ 12108) where
-  pub slot-alike : (i : ℕ) → i < 24 → Alike a b (540 + 482 * i) 482 → slotAt a i ≡ slotAt b i
-  slot-alike i h f = part-alike a b (540 + 482 * i) 482 (omega arith) (omega arith) f
+-- each tag is possible
+pub tags-each : (b : List ℕ) (i n j : ℕ) → tagged b i n ≡ true → i ≤ j → j < i + n → possible (tagAt b j) ≡ true
+tags-each b i n j t x y =
+    let z : i + (j - i) ≡ j = omega arith in
+    ap (λ (m : ℕ). possible (tagAt b m)) (sym z) ∙ tagged-at b i n (j - i) t (omega arith)
 
-  pub slots-alike : Alike a b 540 11568 → tableIn a .«logical_partitions» ≡ tableIn b .«logical_partitions»
+pub tags-all : (b : List ℕ) (i n : ℕ) → ((j : ℕ) → i ≤ j → j < i + n → possible (tagAt b j) ≡ true) → tagged b i n ≡ true
+unfolding tagged
+tags-all b i zero f = refl
+tags-all b i (suc n) f = rw (f i (omega arith) (omega arith)) (tags-all b (suc i) n (λ j x y. f j (omega arith) (omega arith)))
+
+-- the same tag and the same bytes are the same logical partition, and as clean
+pub logical-like : {t u : ℕ} {r s : List ℕ} → t ≡ u → r ≡ s → slotOf t r ≡ slotOf u s
+logical-like {u = u} {r = r} e f = ap (λ (v : ℕ). slotOf v r) e ∙ ap (slotOf u) f
+
+pub clean-like : {t u : ℕ} {r s : List ℕ} → t ≡ u → r ≡ s → SlotClean u s → SlotClean t r
+clean-like {t = t} {s = s} e f z = subst (SlotClean t) (sym f) (subst (λ (v : ℕ). SlotClean v s) (sym e) z)
+
+module _ (a b : List ℕ) (k : length a ≡ 12084) (l : length b ≡ 12084) where
+  pub slot-alike : (i : ℕ) → i < 24 → Alike a b (540 + 480 * i) 480 → slotAt a i ≡ slotAt b i
+  slot-alike i h f = part-alike a b (540 + 480 * i) 480 (omega arith) (omega arith) f
+
+  -- slots and tags
+  pub slots-alike : Alike a b 540 11544 → tableIn a .«logical_partitions» ≡ tableIn b .«logical_partitions»
   slots-alike f =
       slots-are a (tableIn b .«logical_partitions») (ap length (slots-in b) ∙ slots-long b most)
-      (λ i h. ap slotOf (slot-alike i h (λ j x y. f j (omega arith) (omega arith))) ∙ sym (slot-in b i h))
+      (λ i h.
+      logical-like (f (12060 + i) (omega arith) (omega arith)) (slot-alike i h (λ j x y. f j (omega arith) (omega arith))) ∙ sym (slot-in b i h))
 
-  pub clean-alike : Alike a b 540 11568 → Clean b → Clean a
-  clean-alike f z i h = subst SlotClean (sym (slot-alike i h (λ j x y. f j (omega arith) (omega arith)))) (z i h)
+  pub clean-alike : Alike a b 540 11544 → Clean b → Clean a
+  clean-alike f z i h = clean-like (f (12060 + i) (omega arith) (omega arith)) (slot-alike i h (λ j x y. f j (omega arith) (omega arith))) (z i h)
+
+  pub tags-alike : Alike a b 12060 24 → tagged b 0 24 ≡ true → tagged a 0 24 ≡ true
+  tags-alike f t = tags-all a 0 24 (λ i x y. ap possible (f (12060 + i) (omega arith) (omega arith)) ∙ tags-each b 0 24 i t x y)
 
   pub header-alike : Alike a b 20 520 → tableIn a .header ≡ tableIn b .header
   header-alike f = header-in a ∙ ap headerIn (part-alike a b 20 520 (omega arith) (omega arith) f) ∙ sym (header-in b)
@@ -78,20 +101,9 @@ module _ (a b : List ℕ) (k : length a ≡ 12108) (l : length b ≡ 12108) wher
   pub count-alike : Alike a b 12 4 → tableIn a .count ≡ tableIn b .count
   count-alike f = count-in a ∙ ap (number little) (bytes-alike a b 12 4 f) ∙ sym (count-in b)
 
--- each slot is tagged
-pub tags-each : (b : List ℕ) (i n j : ℕ) → tagged b i n ≡ true → i ≤ j → j < i + n → slotTagged (slotAt b j) ≡ true
-tags-each b i n j t x y =
-    let z : i + (j - i) ≡ j = omega arith in
-    ap (λ (m : ℕ). slotTagged (slotAt b m)) (sym z) ∙ tagged-at b i n (j - i) t (omega arith)
-
-pub tags-all : (b : List ℕ) (i n : ℕ) → ((j : ℕ) → i ≤ j → j < i + n → slotTagged (slotAt b j) ≡ true) → tagged b i n ≡ true
-unfolding tagged
-tags-all b i zero f = refl
-tags-all b i (suc n) f = rw (f i (omega arith) (omega arith)) (tags-all b (suc i) n (λ j x y. f j (omega arith) (omega arith)))
-
 -- a block that passes its checks
 pub record Good (b : List ℕ) : Type 0 where
-  pub long : length b ≡ 12108
+  pub long : length b ≡ 12084
   pub few : tableIn b .count ≤ 24
   pub tags : tagged b 0 24 ≡ true
 

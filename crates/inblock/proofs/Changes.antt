@@ -1,5 +1,5 @@
 -- The table in a block after each change. Assumes nothing.
-use mathlib.Core.Path.{_≡_, refl, sym, ap, subst, _∙_}
+use mathlib.Core.Path.{_≡_, refl, sym, ap, _∙_}
 use mathlib.Core.List.{List, [], _∷_, _++_, append-assoc, append-nil}
 use Prim.Native.Nat.{ℕ, _+_, _-_, _*_, _≤_, _<_, _^_}
 use native.Mathlib.Nat.{add-zero, zero-add, add-assoc}
@@ -19,17 +19,17 @@ use Rattle.entry.specs.Entry.{noEntry}
 use Rattle.mbr.specs.declared.MBRHeader.{MBRHeader}
 use Rattle.mbr.specs.Mbr.{codeOf}
 use Rattle.less.specs.Less.{without, emptyAt, emptied, withoutPrimary}
-use Rattle.block.specs.Block.{part, entryPart, entryIn, headerIn, slotPart, slotOf, slotTagged, slotsPart, slotAt, tableIn}
-use Rattle.block.specs.Clean.{SlotClean, Clean}
+use Rattle.block.specs.Block.{part, entryPart, entryIn, headerIn, slotPart, slotsPart, tagOf, tagsPart, slotAt, tagAt, slotPut, possible, tableIn}
+use Rattle.block.specs.Clean.{Clean}
 use Rattle.block.specs.Fits.{SlotFits}
 use Rattle.block.proofs.Inside.{size-in, disk-in, count-in, header-in, slots-in, slots-long, slot-in}
 use Rattle.block.proofs.Laws.{length-slot}
 use Rattle.inblock.specs.Changed.{withCount, withSlot, withoutSlot, withoutEntry, withDisk}
 use Rattle.block.proofs.Forth.{part-long}
-use Rattle.inblock.proofs.Over.{Alike, put-before, put-behind, put-within, bytes-alike, part-byte, part-moved, part-alike, part-zero}
-use Rattle.inblock.proofs.Alike.{clean-alike, slots-alike, slot-alike, header-alike, table-by, size-alike, disk-alike, count-alike, tags-each, tags-all, Good}
+use Rattle.block.proofs.Over.{Alike, cases, put-before, put-behind, put-within, bytes-alike, part-byte, part-moved, part-alike, part-zero}
+use Rattle.inblock.proofs.Alike.{clean-alike, slots-alike, tags-alike, header-alike, table-by, size-alike, disk-alike, count-alike, tags-each, logical-like, clean-like, Good}
 use Rattle.inblock.proofs.Kept.{slot-clean}
-use Rattle.inblock.proofs.Slots.{cases, table-over, good-over, clean-over, slots-put, slots-good}
+use Rattle.inblock.proofs.Slots.{table-over, good-over, clean-over, slots-put, slots-good}
 
 -- what is put stands there
 pub put-bytes : (s : List ℕ) (at : ℕ) (xs : List ℕ) (n : ℕ) → at + length xs ≤ length s → length xs ≡ n → bytesAt (put s at xs) at n ≡ xs
@@ -47,7 +47,7 @@ module _ (b : List ℕ) (n : ℕ) (g : Good b) (h : n ≤ 24) where
   room : 12 + length (bytesOf little 4 n) ≤ length b
   room = omega (arith, g .long)
 
-  long : length c ≡ 12108
+  long : length c ≡ 12084
   long = length-put b 12 (bytesOf little 4 n) room ∙ g .long
 
   counted : tableIn c .count ≡ n
@@ -68,27 +68,23 @@ module _ (b : List ℕ) (n : ℕ) (g : Good b) (h : n ≤ 24) where
       (disk-alike c b long (g .long) (below 4 4 (omega arith)))
       counted
       (header-alike c b long (g .long) (above 20 520 (omega arith)))
-      (slots-alike c b long (g .long) (above 540 11568 (omega arith)))
+      (slots-alike c b long (g .long) (above 540 11544 (omega arith)))
 
   pub count-good : Good (withCount b n)
   count-good =
       record {
         long = long;
         few = rw counted h;
-        tags =
-            tags-all c 0 24
-            (λ i u v.
-            ap slotTagged (slot-alike c b long (g .long) i (omega arith) (above (540 + 482 * i) 482 (omega arith)))
-            ∙ tags-each b 0 24 i (g .tags) u v);
+        tags = tags-alike c b long (g .long) (above 12060 24 (omega arith)) (g .tags);
       }
 
   pub count-clean : Clean b → Clean (withCount b n)
-  count-clean z = clean-alike c b long (g .long) (above 540 11568 (omega arith)) z
+  count-clean z = clean-alike c b long (g .long) (above 540 11544 (omega arith)) z
 
 -- one slot
-one-slot : (l : LogicalPartition) → slotsPart (l ∷ []) ≡ slotPart l
-unfolding slotsPart
-one-slot l = append-nil (slotPart l)
+one-slot : (b : List ℕ) (n : ℕ) (l : LogicalPartition) → put (put b (540 + 480 * n) (slotsPart (l ∷ []))) (12060 + n) (tagsPart (l ∷ [])) ≡ slotPut b n l
+unfolding slotsPart tagsPart slotPut
+one-slot b n l = ap (λ (x : List ℕ). put (put b (540 + 480 * n) x) (12060 + n) (tagOf l ∷ [])) (append-nil (slotPart l))
 
 one-set : {A : Type 0} (ls : List A) (n : ℕ) (l : A) → n < length ls → take n ls ++ (l ∷ []) ++ drop (n + 1) ls ≡ set ls n l
 one-set ls n l h = append-snoc (take n ls) l (drop (n + 1) ls) ∙ ap (λ (m : ℕ). take n ls ++ l ∷ drop m ls) (add-one n) ∙ sym (set-split ls n l h)
@@ -103,16 +99,16 @@ module _ (b : List ℕ) (l : LogicalPartition) (g : Good b) (f : SlotFits l) (h 
 
   pub slot-good : Good (withSlot b n l)
   unfolding withSlot
-  slot-good = rw (one-slot l) at (slots-good (withCount b (n + 1)) (l ∷ []) n counted-good (f, tt) (omega arith))
+  slot-good = rw (one-slot (withCount b (n + 1)) n l) at (slots-good (withCount b (n + 1)) (l ∷ []) n counted-good (f, tt) (omega arith))
 
   pub slot-kept : Clean b → Clean (withSlot b n l)
-  unfolding withSlot
+  unfolding withSlot slotPut
   slot-kept z =
-      let w : length (slotPart l) ≡ 482 = length-slot l (f .code) in
-      clean-over (withCount b (n + 1)) (slotPart l) n 1 counted-good w (omega arith) (count-clean b (n + 1) g (omega arith) z)
+      let w : length (slotPart l) ≡ 480 = length-slot l (f .code) in
+      clean-over (withCount b (n + 1)) (slotPart l) (tagOf l ∷ []) n 1 counted-good w refl (omega arith) (count-clean b (n + 1) g (omega arith) z)
       (λ j u.
       let e : j ≡ 0 = omega arith in
-      rw (e, ← part-zero (slotPart l) 482, take-all 482 (slotPart l) (omega arith)) (slot-clean l))
+      rw (e, ← part-zero (slotPart l) 480, take-all 480 (slotPart l) (omega arith)) (slot-clean l))
 
   pub slot-table : tableIn (withSlot b n l) ≡ withLogicals (tableIn b) (set (tableIn b .«logical_partitions») n l) (n + 1)
   unfolding withSlot
@@ -120,7 +116,7 @@ module _ (b : List ℕ) (l : LogicalPartition) (g : Good b) (f : SlotFits l) (h 
       let t : MBR = tableIn b in
       let d : List ℕ = withCount b (n + 1) in
       let o : length (t .«logical_partitions») ≡ 24 = ap length (slots-in b) ∙ slots-long b most in
-      sym (ap (λ (x : List ℕ). tableIn (put d (540 + 482 * n) x)) (one-slot l)) ∙ slots-put d (l ∷ []) n counted-good (f, tt) (omega arith)
+      sym (ap tableIn (one-slot d n l)) ∙ slots-put d (l ∷ []) n counted-good (f, tt) (omega arith)
       ∙ ap (λ (u : MBR). withLogicals u (take n (u .«logical_partitions») ++ (l ∷ []) ++ drop (n + 1) (u .«logical_partitions»)) (u .count)) (count-put b (n + 1) g (omega arith))
       ∙ ap (λ (ls : List LogicalPartition). withLogicals t ls (n + 1)) (one-set (t .«logical_partitions») n l (omega arith))
 
@@ -130,17 +126,28 @@ module _ (b : List ℕ) (k : ℕ) (g : Good b) (h : k < tableIn b .count) where
   m = tableIn b .count - 1 - k
 
   abbrev moved : List ℕ
-  moved = part b (540 + 482 * (k + 1)) (482 * m)
+  moved = part b (540 + 480 * (k + 1)) (480 * m)
 
-  moved-long : length moved ≡ 482 * m
-  moved-long = part-long b (540 + 482 * (k + 1)) (482 * m) (omega (arith, g .long, g .few))
+  abbrev moved-tags : List ℕ
+  moved-tags = part b (12060 + (k + 1)) m
 
-  moved-slot : (j : ℕ) → j < m → part moved (482 * j) 482 ≡ slotAt b (k + 1 + j)
+  moved-long : length moved ≡ 480 * m
+  moved-long = part-long b (540 + 480 * (k + 1)) (480 * m) (omega (arith, g .long, g .few))
+
+  tags-long : length moved-tags ≡ m
+  tags-long = part-long b (12060 + (k + 1)) m (omega (arith, g .long, g .few))
+
+  moved-slot : (j : ℕ) → j < m → part moved (480 * j) 480 ≡ slotAt b (k + 1 + j)
   moved-slot j u =
-      part-moved moved b (482 * j) (540 + 482 * (k + 1 + j)) 482 (omega (arith, moved-long)) (omega (arith, g .long, g .few))
+      part-moved moved b (480 * j) (540 + 480 * (k + 1 + j)) 480 (omega (arith, moved-long)) (omega (arith, g .long, g .few))
       (λ i v.
-      let e : 540 + 482 * (k + 1) + (482 * j + i) ≡ 540 + 482 * (k + 1 + j) + i = omega arith in
-      part-byte b (540 + 482 * (k + 1)) (482 * m) (482 * j + i) (omega arith) ∙ ap (λ (q : ℕ). getD b q 0) e)
+      let e : 540 + 480 * (k + 1) + (480 * j + i) ≡ 540 + 480 * (k + 1 + j) + i = omega arith in
+      part-byte b (540 + 480 * (k + 1)) (480 * m) (480 * j + i) (omega arith) ∙ ap (λ (q : ℕ). getD b q 0) e)
+
+  moved-tag : (j : ℕ) → j < m → getD moved-tags j 0 ≡ tagAt b (k + 1 + j)
+  moved-tag j u =
+      let e : 12060 + (k + 1) + j ≡ 12060 + (k + 1 + j) = omega arith in
+      part-byte b (12060 + (k + 1)) m j u ∙ ap (λ (q : ℕ). getD b q 0) e
 
   less-good : Good (withCount b (tableIn b .count - 1))
   less-good = count-good b (tableIn b .count - 1) g (omega (arith, g .few))
@@ -148,14 +155,14 @@ module _ (b : List ℕ) (k : ℕ) (g : Good b) (h : k < tableIn b .count) where
   pub removal-good : Good (withoutSlot b (tableIn b .count) k)
   unfolding withoutSlot
   removal-good =
-      good-over (withCount b (tableIn b .count - 1)) moved k m less-good moved-long (omega (arith, g .few))
-      (λ j u. ap slotTagged (moved-slot j u) ∙ tags-each b 0 24 (k + 1 + j) (g .tags) (omega arith) (omega (arith, g .few)))
+      good-over (withCount b (tableIn b .count - 1)) moved moved-tags k m less-good moved-long tags-long (omega (arith, g .few))
+      (λ j u. ap possible (moved-tag j u) ∙ tags-each b 0 24 (k + 1 + j) (g .tags) (omega arith) (omega (arith, g .few)))
 
   pub removal-kept : Clean b → Clean (withoutSlot b (tableIn b .count) k)
   unfolding withoutSlot
   removal-kept z =
-      clean-over (withCount b (tableIn b .count - 1)) moved k m less-good moved-long (omega (arith, g .few)) (count-clean b (tableIn b .count - 1) g (omega (arith, g .few)) z)
-      (λ j u. subst SlotClean (sym (moved-slot j u)) (z (k + 1 + j) (omega (arith, g .few))))
+      clean-over (withCount b (tableIn b .count - 1)) moved moved-tags k m less-good moved-long tags-long (omega (arith, g .few)) (count-clean b (tableIn b .count - 1) g (omega (arith, g .few)) z)
+      (λ j u. clean-like (moved-tag j u) (moved-slot j u) (z (k + 1 + j) (omega (arith, g .few))))
 
   pub removal-table : tableIn (withoutSlot b (tableIn b .count) k) ≡ without (tableIn b) k
   unfolding withoutSlot
@@ -165,9 +172,9 @@ module _ (b : List ℕ) (k : ℕ) (g : Good b) (h : k < tableIn b .count) where
       let o : length old ≡ 24 = ap length (slots-in b) ∙ slots-long b most in
       let ls : List LogicalPartition = take m (drop (k + 1) old) in
       let w : length ls ≡ m = length-take-le m (drop (k + 1) old) (omega (arith, length-drop (k + 1) old, g .few)) in
-      table-over (withCount b (t .count - 1)) moved k m less-good moved-long (omega (arith, g .few)) ls w
+      table-over (withCount b (t .count - 1)) moved moved-tags k m less-good moved-long tags-long (omega (arith, g .few)) ls w
       (λ j u.
-      ap slotOf (moved-slot j u) ∙ sym (slot-in b (k + 1 + j) (omega (arith, g .few)))
+      logical-like (moved-tag j u) (moved-slot j u) ∙ sym (slot-in b (k + 1 + j) (omega (arith, g .few)))
       ∙ sym (getD-take m (drop (k + 1) old) j noLogical u ∙ getD-drop (k + 1) old j noLogical))
       ∙ ap (λ (u : MBR). withLogicals u (take k (u .«logical_partitions») ++ ls ++ drop (k + length ls) (u .«logical_partitions»)) (u .count)) (count-put b (t .count - 1) g (omega (arith, g .few)))
       ∙ ap (λ (q : ℕ). withLogicals t (take k old ++ ls ++ drop (k + q) old) (t .count - 1)) w
@@ -189,7 +196,7 @@ module _ (b : List ℕ) (i : ℕ) (g : Good b) (h : 1 ≤ i) (k : i < 5) where
   away-room : at + length (entryPart noEntry) ≤ length b
   away-room = omega (arith, g .long)
 
-  away-long : length away ≡ 12108
+  away-long : length away ≡ 12084
   away-long = length-put b at (entryPart noEntry) away-room ∙ g .long
 
   away-below : (o q : ℕ) → o + q ≤ at → Alike away b o q
@@ -251,16 +258,12 @@ module _ (b : List ℕ) (i : ℕ) (g : Good b) (h : 1 ≤ i) (k : i < 5) where
       record {
         long = away-long;
         few = rw (count-alike away b away-long (g .long) (away-below 12 4 (omega arith))) (g .few);
-        tags =
-            tags-all away 0 24
-            (λ j u v.
-            ap slotTagged (slot-alike away b away-long (g .long) j (omega arith) (away-above (540 + 482 * j) 482 (omega arith)))
-            ∙ tags-each b 0 24 j (g .tags) u v);
+        tags = tags-alike away b away-long (g .long) (away-above 12060 24 (omega arith)) (g .tags);
       }
 
   pub entry-kept : Clean b → Clean (withoutEntry b i)
   unfolding withoutEntry
-  entry-kept z = clean-alike away b away-long (g .long) (away-above 540 11568 (omega arith)) z
+  entry-kept z = clean-alike away b away-long (g .long) (away-above 540 11544 (omega arith)) z
 
   pub entry-table : tableIn (withoutEntry b i) ≡ withoutPrimary (tableIn b) i
   unfolding withoutEntry
@@ -272,7 +275,7 @@ module _ (b : List ℕ) (i : ℕ) (g : Good b) (h : 1 ≤ i) (k : i < 5) where
       (disk-alike away b away-long (g .long) (away-below 4 4 (omega arith)))
       (count-alike away b away-long (g .long) (away-below 12 4 (omega arith)))
       (header-in away ∙ header-after ∙ ap (λ (h : MBRHeader). emptied h i) (sym (header-in b)))
-      (slots-alike away b away-long (g .long) (away-above 540 11568 (omega arith)))
+      (slots-alike away b away-long (g .long) (away-above 540 11544 (omega arith)))
 
 -- another sector size and D
 module _ (b : List ℕ) (size disk : ℕ) (g : Good b) (h : size < 2 ^ 32) (k : disk < 2 ^ 32) where
@@ -285,7 +288,7 @@ module _ (b : List ℕ) (size disk : ℕ) (g : Good b) (h : size < 2 ^ 32) (k : 
   front-room : 0 + length front ≤ length b
   front-room = omega (arith, g .long)
 
-  front-long : length moved-disk ≡ 12108
+  front-long : length moved-disk ≡ 12084
   front-long = length-put b 0 front front-room ∙ g .long
 
   front-there : Alike moved-disk front 0 8
@@ -300,16 +303,12 @@ module _ (b : List ℕ) (size disk : ℕ) (g : Good b) (h : size < 2 ^ 32) (k : 
       record {
         long = front-long;
         few = rw (count-alike moved-disk b front-long (g .long) (front-above 12 4 (omega arith))) (g .few);
-        tags =
-            tags-all moved-disk 0 24
-            (λ j u v.
-            ap slotTagged (slot-alike moved-disk b front-long (g .long) j (omega arith) (front-above (540 + 482 * j) 482 (omega arith)))
-            ∙ tags-each b 0 24 j (g .tags) u v);
+        tags = tags-alike moved-disk b front-long (g .long) (front-above 12060 24 (omega arith)) (g .tags);
       }
 
   pub disk-kept : Clean b → Clean (withDisk b size disk)
   unfolding withDisk
-  disk-kept z = clean-alike moved-disk b front-long (g .long) (front-above 540 11568 (omega arith)) z
+  disk-kept z = clean-alike moved-disk b front-long (g .long) (front-above 540 11544 (omega arith)) z
 
   pub disk-table : tableIn (withDisk b size disk)
       ≡ record { «sector_size» = size; header = tableIn b .header; «logical_partitions» = tableIn b .«logical_partitions»; count = tableIn b .count; align = tableIn b .align; cylinders = tableIn b .cylinders; heads = tableIn b .heads; sectors = tableIn b .sectors; «disk_size» = disk }
@@ -322,4 +321,4 @@ module _ (b : List ℕ) (size disk : ℕ) (g : Good b) (h : size < 2 ^ 32) (k : 
       (disk-in moved-disk ∙ ap (number little) (bytes-alike moved-disk front 4 4 (λ j x y. front-there j (omega arith) (omega arith))) ∙ number-bytesOf little 4 disk k)
       (count-alike moved-disk b front-long (g .long) (front-above 12 4 (omega arith)))
       (header-alike moved-disk b front-long (g .long) (front-above 20 520 (omega arith)))
-      (slots-alike moved-disk b front-long (g .long) (front-above 540 11568 (omega arith)))
+      (slots-alike moved-disk b front-long (g .long) (front-above 540 11544 (omega arith)))

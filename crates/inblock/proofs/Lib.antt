@@ -1,4 +1,3 @@
-pub mod Over
 pub mod Alike
 pub mod Slots
 pub mod Changes

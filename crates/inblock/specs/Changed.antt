@@ -5,7 +5,7 @@ use Rattle.base.specs.Bytes.{bytesOf, little}
 use Rattle.base.specs.Put.{put}
 use Rattle.entry.specs.Entry.{noEntry}
 use Rattle.table.specs.declared.LogicalPartition.{LogicalPartition}
-use Rattle.block.specs.Block.{part, entryPart, slotPart}
+use Rattle.block.specs.Block.{part, entryPart, slotPut}
 
 -- another count
 abbrev pub withCount : List ℕ → ℕ → List ℕ
@@ -13,11 +13,12 @@ withCount b n = put b 12 (bytesOf little 4 n)
 
 -- one logical partition behind n others
 unfoldable pub withSlot : List ℕ → ℕ → LogicalPartition → List ℕ
-withSlot b n l = put (withCount b (n + 1)) (540 + 482 * n) (slotPart l)
+withSlot b n l = slotPut (withCount b (n + 1)) n l
 
--- n logical partitions without number k, counted from 0: the later slots stand one earlier, the old last one stays
+-- n logical partitions without number k, counted from 0: the later slots and tags stand one earlier, the old last one stays
 unfoldable pub withoutSlot : List ℕ → ℕ → ℕ → List ℕ
-withoutSlot b n k = put (withCount b (n - 1)) (540 + 482 * k) (part b (540 + 482 * (k + 1)) (482 * (n - 1 - k)))
+withoutSlot b n k =
+    put (put (withCount b (n - 1)) (540 + 480 * k) (part b (540 + 480 * (k + 1)) (480 * (n - 1 - k)))) (12060 + k) (part b (12060 + (k + 1)) (n - 1 - k))
 
 -- the primary number i, 1 to 4, is the empty entry
 unfoldable pub withoutEntry : List ℕ → ℕ → List ℕ

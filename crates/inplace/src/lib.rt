@@ -8,16 +8,16 @@ ghost use Rattle.inblock.specs.Changed.{withSlot, withoutEntry, withDisk};
 
 // A logical partition behind n others.
 pub fn add_slot(b: &mut [u8], n: usize, l: LogicalPartition)
-    requires { ⌜ (length (now b) ≡ 12108) × (n < 24) ⌝ }
+    requires { ⌜ (length (now b) ≡ 12084) × (n < 24) ⌝ }
     ensures { λ _. ⌜ now (b .exit) ≡ withSlot (now (b .entry)) n l ⌝ }
 {
     base::put32(b, 12, (n + 1) as u32);
-    slotwrite::put_slot(b, 540 + 482 * n, l);
+    slotput::put_into(b, n, l);
 }
 
 // Primary number i, 1 to 4, away.
 pub fn clear_primary(b: &mut [u8], i: usize)
-    requires { ⌜ (length (now b) ≡ 12108) × (1 ≤ i) × (i < 5) ⌝ }
+    requires { ⌜ (length (now b) ≡ 12084) × (1 ≤ i) × (i < 5) ⌝ }
     ensures { λ _. ⌜ now (b .exit) ≡ withoutEntry (now (b .entry)) i ⌝ }
 {
     let e = MBRPartitionEntry::empty();
@@ -26,7 +26,7 @@ pub fn clear_primary(b: &mut [u8], i: usize)
 
 // Another sector size and D.
 pub fn put_disk(b: &mut [u8], size: u32, disk: u32)
-    requires { ⌜ length (now b) ≡ 12108 ⌝ }
+    requires { ⌜ length (now b) ≡ 12084 ⌝ }
     ensures { λ _. ⌜ now (b .exit) ≡ withDisk (now (b .entry)) size disk ⌝ }
 {
     base::put32(b, 0, size);

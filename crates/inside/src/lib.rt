@@ -12,7 +12,7 @@ ghost use Rattle.block.specs.Block.{tableIn};
 
 // How many logical partitions.
 pub fn count(b: &[u8]) -> usize
-    requires { ⌜ length (now b) ≡ 12108 ⌝ }
+    requires { ⌜ length (now b) ≡ 12084 ⌝ }
     ensures { λ r. ⌜ r ≡ tableIn (now (b .entry)) .count ⌝ }
 {
     base::get32(b, 12) as usize
@@ -20,7 +20,7 @@ pub fn count(b: &[u8]) -> usize
 
 // The entry of a primary, counted from 0.
 pub fn primary(b: &[u8], i: usize) -> MBRPartitionEntry
-    requires { ⌜ (length (now b) ≡ 12108) × (i < 4) ⌝ }
+    requires { ⌜ (length (now b) ≡ 12084) × (i < 4) ⌝ }
     ensures { λ r. ⌜ r ≡ getD (primaries (tableIn (now (b .entry)) .header)) i noEntry ⌝ }
 {
     slotread::get_entry(slotread::part_of(b, 20, 520), 446 + 18 * i)
@@ -28,7 +28,7 @@ pub fn primary(b: &[u8], i: usize) -> MBRPartitionEntry
 
 // The first extended entry.
 pub fn extended(b: &[u8]) -> Found
-    requires { ⌜ length (now b) ≡ 12108 ⌝ }
+    requires { ⌜ length (now b) ≡ 12084 ⌝ }
     ensures { λ r. ⌜ found r ≡ extendedIn (tableIn (now (b .entry))) ⌝ }
 {
     let n: usize = 4;
@@ -43,24 +43,24 @@ pub fn extended(b: &[u8]) -> Found
 
 // The entry of a logical partition, counted from 0.
 pub fn logical(b: &[u8], i: usize) -> MBRPartitionEntry
-    requires { ⌜ (length (now b) ≡ 12108) × (i < 24) ⌝ }
+    requires { ⌜ (length (now b) ≡ 12084) × (i < 24) ⌝ }
     ensures { λ r. ⌜ r ≡ getD (tableIn (now (b .entry)) .«logical_partitions») i noLogical .partition ⌝ }
 {
-    slotread::get_entry(slotread::part_of(b, 540 + 482 * i, 482), 0)
+    slotread::get_entry(slotread::part_of(b, 540 + 480 * i, 480), 0)
 }
 
 // The place of its EBR.
 pub fn ebr_lba(b: &[u8], i: usize) -> u32
-    requires { ⌜ (length (now b) ≡ 12108) × (i < 24) ⌝ }
+    requires { ⌜ (length (now b) ≡ 12084) × (i < 24) ⌝ }
     ensures { λ r. ⌜ r ≡ getD (tableIn (now (b .entry)) .«logical_partitions») i noLogical .«absolute_ebr_lba» .0 ⌝ }
 {
-    base::get32(slotread::part_of(b, 540 + 482 * i, 482), 18)
+    base::get32(slotread::part_of(b, 540 + 480 * i, 480), 18)
 }
 
 // The logical partition, whole.
 pub fn slot(b: &[u8], i: usize) -> LogicalPartition
-    requires { ⌜ (length (now b) ≡ 12108) × (i < 24) ⌝ }
+    requires { ⌜ (length (now b) ≡ 12084) × (i < 24) ⌝ }
     ensures { λ r. ⌜ r ≡ getD (tableIn (now (b .entry)) .«logical_partitions») i noLogical ⌝ }
 {
-    slotread::get_slot(slotread::part_of(b, 540 + 482 * i, 482))
+    slotread::get_slot(slotread::part_of(b, 540 + 480 * i, 480), b[12060 + i])
 }

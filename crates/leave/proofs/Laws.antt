@@ -1,29 +1,30 @@
 -- The loop that puts the slots of a block as writing leaves them. Assumes nothing.
 use mathlib.Core.Path.{_≡_, sym, ap, subst, _∙_}
-use mathlib.Core.List.{List, [], _∷_, _++_, append-nil}
+use mathlib.Core.List.{List, [], _∷_, _++_}
 use mathlib.Core.Option.{none}
 use Prim.Native.Nat.{ℕ, zero, suc, _+_, _*_, _≤_, _<_}
 use native.Mathlib.Numerals.{add-one}
 use native.Mathlib.Omega.{arith}
-use lib.ListN.{length, take, getD, take-append-drop}
+use lib.ListN.{length, take, getD}
 use lib.Seq.{take-suc, take-all, length-take-le}
 use Rattle.base.specs.Put.{put}
 use Rattle.base.specs.Bytes.{number, little}
 use Rattle.base.specs.Checks.{first-fail}
-use Rattle.base.proofs.Put.{length-put, behind}
+use Rattle.base.proofs.Put.{length-put}
 use Rattle.table.specs.declared.LogicalPartition.{LogicalPartition}
 use Rattle.table.specs.Table.{noLogical, logicals}
 use Rattle.address.specs.declared.Geometry.{Geometry}
 use Rattle.push.specs.Push.{geometryOf}
-use Rattle.block.specs.Block.{slotPart, slotOf, slotsPart, tableIn}
+use Rattle.block.specs.Block.{slotsPart, tagsPart, tagAt, slotPut, slotsPut, tableIn}
 use Rattle.block.specs.Fits.{SlotFits, SlotsFit}
 use Rattle.block.proofs.Inside.{cylinders-in, heads-in, sectors-in, slot-in}
-use Rattle.block.proofs.Laws.{slots-snoc}
+use Rattle.block.proofs.Laws.{length-slot, length-tags}
+use Rattle.block.proofs.Slots.{slots-start, slots-turn}
 use Rattle.block.proofs.Back.{length-slots}
 use Rattle.settled.specs.Settle.{atStart, firstAt, byGeometry, slotGeometry, Held, geometryChecks, settledIn}
 use Rattle.settled.proofs.Laws.{settled-at, settled-long, held-long, held-in, held-at, held-none}
-use Rattle.inblock.proofs.Over.{Alike, bytes-alike, put-before, put-behind}
-use Rattle.inblock.proofs.Alike.{slot-alike, count-alike}
+use Rattle.block.proofs.Over.{Alike, bytes-alike, put-before, put-behind}
+use Rattle.inblock.proofs.Alike.{slot-alike, count-alike, logical-like}
 
 -- lists alike at i stay so with the first one in its place
 first-like : (X i : ℕ) (ls ms : List LogicalPartition) → i < length ls → i < length ms → getD ls i noLogical ≡ getD ms i noLogical
@@ -40,32 +41,54 @@ fits-snoc [] l s f = (f, tt)
 fits-snoc (x ∷ ls) l s f = (s .0, fits-snoc ls l (s .1) f)
 
 -- no slot yet
-pub leave-start : (b : List ℕ) (ls : List LogicalPartition) → b ≡ put b 540 (slotsPart (take 0 ls))
-unfolding put slotsPart
-leave-start b ls = sym (rw (append-nil (take 540 b)) (take-append-drop 540 b))
+pub leave-start : (b : List ℕ) (ls : List LogicalPartition) → b ≡ slotsPut b (take 0 ls)
+leave-start b ls = sym (slots-start b)
 
 -- the first i slots are put
-module _ (d b : List ℕ) (x i : ℕ) (h : Held d) (k : i < tableIn d .count) (s : SlotsFit (take i (settledIn (tableIn d) x))) (e : b ≡ put d 540 (slotsPart (take i (settledIn (tableIn d) x)))) where
+module _ (d b : List ℕ) (x i : ℕ) (h : Held d) (k : i < tableIn d .count) (s : SlotsFit (take i (settledIn (tableIn d) x))) (e : b ≡ slotsPut d (take i (settledIn (tableIn d) x))) where
   abbrev ls : List LogicalPartition
   ls = settledIn (tableIn d) x
 
   abbrev xs : List ℕ
   xs = slotsPart (take i ls)
 
+  abbrev ts : List ℕ
+  ts = tagsPart (take i ls)
+
+  abbrev a : List ℕ
+  a = put d 540 xs
+
   many : length ls ≡ tableIn d .count
   many = settled-long (tableIn d) x (held-long d h)
 
-  wide : length xs ≡ 482 * i
-  wide = length-slots (take i ls) s ∙ ap (λ (n : ℕ). 482 * n) (length-take-le i ls (omega (arith, many, k)))
+  first : length (take i ls) ≡ i
+  first = length-take-le i ls (omega (arith, many, k))
+
+  wide : length xs ≡ 480 * i
+  wide = length-slots (take i ls) s ∙ ap (λ (n : ℕ). 480 * n) first
+
+  tags : length ts ≡ i
+  tags = length-tags (take i ls) ∙ first
 
   room : 540 + length xs ≤ length d
   room = omega (arith, h .0, h .1, k, wide)
 
-  long : length b ≡ 12108
-  long = ap length e ∙ length-put d 540 xs room ∙ h .0
+  half : length a ≡ length d
+  half = length-put d 540 xs room
+
+  rest : 12060 + length ts ≤ length a
+  rest = omega (arith, h .0, h .1, k, tags, half)
+
+  put-so : b ≡ put a 12060 ts
+  unfolding slotsPut
+  put-so = e
+
+  long : length b ≡ 12084
+  long = ap length put-so ∙ length-put a 12060 ts rest ∙ half ∙ h .0
 
   before : (o n : ℕ) → o + n ≤ 540 → Alike b d o n
-  before o n u = subst (λ (z : List ℕ). Alike z d o n) (sym e) (put-before d 540 xs room o n u)
+  before o n u j v w =
+      ap (λ (z : List ℕ). getD z j 0) put-so ∙ put-before a 12060 ts rest o n (omega (arith, u)) j v w ∙ put-before d 540 xs room o n u j v w
 
   counted : tableIn b .count ≡ tableIn d .count
   counted = count-alike b d long (h .0) (before 12 4 (omega arith))
@@ -80,8 +103,15 @@ module _ (d b : List ℕ) (x i : ℕ) (h : Held d) (k : i < tableIn d .count) (s
   slot-same : getD (tableIn b .«logical_partitions») i noLogical ≡ getD (tableIn d .«logical_partitions») i noLogical
   slot-same =
       let u : i < 24 = omega (arith, h .1, k) in
-      let a : Alike b d (540 + 482 * i) 482 = subst (λ (z : List ℕ). Alike z d (540 + 482 * i) 482) (sym e) (put-behind d 540 xs room (540 + 482 * i) 482 (omega (arith, wide))) in
-      slot-in b i u ∙ ap slotOf (slot-alike b d long (h .0) i u a) ∙ sym (slot-in d i u)
+      let f : Alike b d (540 + 480 * i) 480 =
+      λ j v w.
+      ap (λ (z : List ℕ). getD z j 0) put-so ∙ put-before a 12060 ts rest (540 + 480 * i) 480 (omega (arith, u)) j v w
+      ∙ put-behind d 540 xs room (540 + 480 * i) 480 (omega (arith, wide)) j v w in
+      let t : tagAt b i ≡ tagAt d i =
+      ap (λ (z : List ℕ). getD z (12060 + i) 0) put-so
+      ∙ put-behind a 12060 ts rest (12060 + i) 1 (omega (arith, tags)) (12060 + i) (omega arith) (omega arith)
+      ∙ put-behind d 540 xs room (12060 + i) 1 (omega (arith, u, wide)) (12060 + i) (omega arith) (omega arith) in
+      slot-in b i u ∙ logical-like t (slot-alike b d long (h .0) i u f) ∙ sym (slot-in d i u)
 
   geometry-same : geometryOf (tableIn b) ≡ geometryOf (tableIn d)
   geometry-same =
@@ -113,15 +143,19 @@ module _ (d b : List ℕ) (x i : ℕ) (h : Held d) (k : i < tableIn d .count) (s
   more : take (i + 1) ls ≡ take i ls ++ (getD ls i noLogical ∷ [])
   more = rw (add-one i) (take-suc ls i noLogical (omega (arith, many, k)))
 
-  pub turn-put : (l : LogicalPartition) (c : List ℕ) → l ≡ getD ls i noLogical → SlotFits l → c ≡ put b (540 + 482 * i) (slotPart l)
-      → (c ≡ put d 540 (slotsPart (take (i + 1) ls))) × SlotsFit (take (i + 1) ls)
+  pub turn-put : (l : LogicalPartition) (c : List ℕ) → l ≡ getD ls i noLogical → SlotFits l → c ≡ slotPut b i l
+      → (c ≡ slotsPut d (take (i + 1) ls)) × SlotsFit (take (i + 1) ls)
   turn-put l c p f q =
       let w : take i ls ++ (l ∷ []) ≡ take (i + 1) ls = ap (λ (m : LogicalPartition). take i ls ++ (m ∷ [])) p ∙ sym more in
-      (behind d b c 540 (482 * i) xs (slotPart l) wide (omega (arith, room, wide)) e q ∙ ap (put d 540) (sym (slots-snoc (take i ls) l) ∙ ap slotsPart w), subst SlotsFit w (fits-snoc (take i ls) l s f))
+      let t : slotPut (slotsPut d (take i ls)) (length (take i ls)) l ≡ slotsPut d (take i ls ++ (l ∷ [])) =
+      slots-turn d (take i ls) l (h .0) (omega (arith, first, h .1, k)) (omega (arith, wide, first)) (length-slot l (f .code)) in (
+        q ∙ ap (λ (z : List ℕ). slotPut z i l) e ∙ ap (λ (n : ℕ). slotPut (slotsPut d (take i ls)) n l) (sym first) ∙ t ∙ ap (slotsPut d) w,
+        subst SlotsFit w (fits-snoc (take i ls) l s f),
+      )
 
 -- all are put
-pub leave-end : (d b : List ℕ) (x i : ℕ) → Held d → tableIn d .count ≤ i → SlotsFit (take i (settledIn (tableIn d) x)) → b ≡ put d 540 (slotsPart (take i (settledIn (tableIn d) x)))
-    → (b ≡ put d 540 (slotsPart (settledIn (tableIn d) x))) × SlotsFit (settledIn (tableIn d) x)
+pub leave-end : (d b : List ℕ) (x i : ℕ) → Held d → tableIn d .count ≤ i → SlotsFit (take i (settledIn (tableIn d) x)) → b ≡ slotsPut d (take i (settledIn (tableIn d) x))
+    → (b ≡ slotsPut d (settledIn (tableIn d) x)) × SlotsFit (settledIn (tableIn d) x)
 leave-end d b x i h k s e =
     let w : take i (settledIn (tableIn d) x) ≡ settledIn (tableIn d) x = take-all i (settledIn (tableIn d) x) (omega (arith, settled-long (tableIn d) x (held-long d h), k)) in
-    (e ∙ ap (λ (ls : List LogicalPartition). put d 540 (slotsPart ls)) w, subst SlotsFit w s)
+    (e ∙ ap (slotsPut d) w, subst SlotsFit w s)

@@ -2,27 +2,26 @@
 use table::LogicalPartition;
 ghost use mathlib.Core.Path.{_≡_};
 ghost use mathlib.Core.Option.{none};
-ghost use Prim.Native.Nat.{_+_, _*_, _<_};
+ghost use Prim.Native.Nat.{_<_};
 ghost use lib.ListN.{length};
-ghost use Rattle.base.specs.Put.{put};
 ghost use Rattle.base.specs.Checks.{first-fail};
-ghost use Rattle.block.specs.Block.{slotPart, slotsPart, tableIn};
+ghost use Rattle.block.specs.Block.{slotPut, slotsPut, tableIn};
 ghost use Rattle.block.specs.Fits.{SlotFits, SlotsFit};
 ghost use Rattle.settled.specs.Settle.{Held, geometryChecks, settledIn};
 
 // A logical partition into slot i, whose fields hold its numbers.
 fn put_fit(b: &mut [u8], i: usize, l: LogicalPartition)
-    requires { ⌜ (length (now b) ≡ 12108) × (i < 24) ⌝ }
-    ensures { λ _. ⌜ now (b .exit) ≡ put (now (b .entry)) (540 + 482 * i) (slotPart l) ⌝ }
+    requires { ⌜ (length (now b) ≡ 12084) × (i < 24) ⌝ }
+    ensures { λ _. ⌜ now (b .exit) ≡ slotPut (now (b .entry)) i l ⌝ }
     ensures { λ _. ⌜ SlotFits l ⌝ }
 {
-    slotwrite::put_slot(b, 540 + 482 * i, l);
+    slotput::put_into(b, i, l);
 }
 
 // Every logical partition of a block as writing leaves it, if the extended entry starts at x.
 pub fn leave(b: &mut [u8], x: u32)
     requires { ⌜ Held (now b) × (first-fail (geometryChecks (tableIn (now b)) x) ≡ none) ⌝ }
-    ensures { λ _. ⌜ now (b .exit) ≡ put (now (b .entry)) 540 (slotsPart (settledIn (tableIn (now (b .entry))) x)) ⌝ }
+    ensures { λ _. ⌜ now (b .exit) ≡ slotsPut (now (b .entry)) (settledIn (tableIn (now (b .entry))) x) ⌝ }
     ensures { λ _. ⌜ SlotsFit (settledIn (tableIn (now (b .entry))) x) ⌝ }
 {
     let n = inside::count(b);

@@ -22,11 +22,11 @@ pub block-done : (b : List ℕ) (t : MBR) → first-fail (blockChecks b) ≡ non
 block-done b t h e = checked-none (blockChecks b) refuses (gives (tableIn b)) h ∙ ap gives (sym e)
 
 -- a block that passes its checks has a block's length
-pub block-length : (b : List ℕ) → first-fail (blockChecks b) ≡ none → length b ≡ 12108
+pub block-length : (b : List ℕ) → first-fail (blockChecks b) ≡ none → length b ≡ 12084
 block-length b h = eqb-true _ _ (none-fails (blockChecks b) h .0)
 
 -- its length is a block's, and its count is one that a table can have
-pub block-good : (b : List ℕ) → first-fail (blockChecks b) ≡ none → (length b ≡ 12108) × (tableIn b .count ≤ 24)
+pub block-good : (b : List ℕ) → first-fail (blockChecks b) ≡ none → (length b ≡ 12084) × (tableIn b .count ≤ 24)
 block-good b h =
     let c : number little (bytesAt b 12 4) ≤ 24 = leb-true _ _ (none-fails (blockChecks b) h .1 .0) in
     (block-length b h, omega (arith, count-in b, c))

@@ -9,13 +9,13 @@ ghost use Rattle.block.specs.Block.{headerIn, slotsIn, tableIn};
 
 // Every slot, the unused ones too.
 fn get_slots(b: &[u8]) -> [LogicalPartition; LOGICALS]
-    requires { ⌜ length (now b) ≡ 12108 ⌝ }
+    requires { ⌜ length (now b) ≡ 12084 ⌝ }
     ensures { λ r. ⌜ r ≡ slotsIn (now (b .entry)) 24 ⌝ }
 {
     let none = LogicalPartition::empty();
     let mut ls = [none; LOGICALS];
     for i in 0..LOGICALS {
-        let l = slotread::get_slot(slotread::part_of(b, 540 + 482 * i, 482));
+        let l = slotread::get_slot(slotread::part_of(b, 540 + 480 * i, 480), b[12060 + i]);
         ls[i] = l;
     }
     ls
@@ -48,7 +48,7 @@ pub fn get_header(s: &[u8]) -> MBRHeader
 
 // The table in a block.
 pub fn get_table(b: &[u8]) -> MBR
-    requires { ⌜ length (now b) ≡ 12108 ⌝ }
+    requires { ⌜ length (now b) ≡ 12084 ⌝ }
     ensures { λ r. ⌜ r ≡ tableIn (now (b .entry)) ⌝ }
 {
     let header = get_header(slotread::part_of(b, 20, 520));

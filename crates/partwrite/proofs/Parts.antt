@@ -1,12 +1,11 @@
 -- The parts of a block, each from what it is made of. Assumes nothing.
 use mathlib.Core.Path.{_≡_, refl, sym, ap, _∙_}
-use mathlib.Core.List.{List, [], _∷_, _++_, append-nil}
+use mathlib.Core.List.{List, [], _∷_, _++_}
 use Prim.Native.Nat.{ℕ, _+_, _*_, _<_}
-use native.Mathlib.Nat.{add-zero}
 use native.Mathlib.Omega.{arith}
 use native.Mathlib.Numerals.{add-one}
-use lib.ListN.{length, take, getD, length-append, take-append-drop}
-use lib.Seq.{take-suc, take-all}
+use lib.ListN.{length, take, getD, length-append}
+use lib.Seq.{take-suc, take-all, length-take-le}
 use Rattle.base.specs.Bytes.{bytesOf, little}
 use Rattle.base.specs.Put.{put}
 use Rattle.base.proofs.Put.{behind}
@@ -14,39 +13,37 @@ use Rattle.entry.specs.declared.MBRPartitionEntry.{MBRPartitionEntry}
 use Rattle.mbr.specs.declared.MBRHeader.{MBRHeader}
 use Rattle.table.specs.declared.LogicalPartition.{LogicalPartition}
 use Rattle.table.specs.Table.{noLogical}
-use Rattle.block.specs.Block.{entryPart, slotPart, codePart, entriesPart, headerPart, frontPart, slotsPart}
-use Rattle.block.proofs.Laws.{slots-snoc}
+use Rattle.block.specs.Block.{entryPart, slotPart, codePart, entriesPart, headerPart, frontPart, slotsPart, tagsPart, slotPut, slotsPut}
+use Rattle.block.proofs.Laws.{slots-snoc, length-tags}
+use Rattle.block.proofs.Slots.{slots-start, slots-turn}
 
 -- the loop over the slots: its start, a turn, and its end
-put-none : (d : List ℕ) (at : ℕ) → put d at [] ≡ d
-unfolding put
-put-none d at = rw (append-nil (take at d), add-zero at) (take-append-drop at d)
-
-pub slots-start : (d : List ℕ) (ls : List LogicalPartition) → (length (slotsPart (take 0 ls)) ≡ 482 * 0) × (d ≡ put d 540 (slotsPart (take 0 ls)))
+pub all-start : (d : List ℕ) (ls : List LogicalPartition) → (length (slotsPart (take 0 ls)) ≡ 480 * 0) × (d ≡ slotsPut d (take 0 ls))
 unfolding slotsPart
-slots-start d ls = (refl, sym (put-none d 540))
+all-start d ls = (refl, sym (slots-start d))
 
-pub slots-turn : (d₀ d e : List ℕ) (ls : List LogicalPartition) (i : ℕ) → length ls ≡ 24 → i < 24 → length d₀ ≡ 12108
-    → length (slotsPart (take i ls)) ≡ 482 * i → d ≡ put d₀ 540 (slotsPart (take i ls))
-    → (e ≡ put d (540 + i * 482) (slotPart (getD ls i noLogical))) × (length (slotPart (getD ls i noLogical)) ≡ 482)
-    → (length (slotsPart (take (i + 1) ls)) ≡ 482 * (i + 1)) × (e ≡ put d₀ 540 (slotsPart (take (i + 1) ls)))
-slots-turn d₀ d e ls i k h n m p q =
+pub all-turn : (d₀ d e : List ℕ) (ls : List LogicalPartition) (i : ℕ) → length ls ≡ 24 → i < 24 → length d₀ ≡ 12084
+    → length (slotsPart (take i ls)) ≡ 480 * i → d ≡ slotsPut d₀ (take i ls)
+    → (e ≡ slotPut d i (getD ls i noLogical)) × (length (slotPart (getD ls i noLogical)) ≡ 480)
+    → (length (slotsPart (take (i + 1) ls)) ≡ 480 * (i + 1)) × (e ≡ slotsPut d₀ (take (i + 1) ls))
+all-turn d₀ d e ls i k h n m p q =
     let l : LogicalPartition = getD ls i noLogical in
-    let t : slotsPart (take (i + 1) ls) ≡ slotsPart (take i ls) ++ slotPart l =
-    ap (λ (j : ℕ). slotsPart (take j ls)) (add-one i) ∙ ap slotsPart (take-suc ls i noLogical (omega arith)) ∙ slots-snoc (take i ls) l in
-    let z : length (slotsPart (take i ls)) ≡ i * 482 = omega arith in (
-      ap length t ∙ length-append (slotsPart (take i ls)) (slotPart l) ∙ omega (arith, q .1),
-      behind d₀ d e 540 (i * 482) (slotsPart (take i ls)) (slotPart l) z (omega arith) p (q .0) ∙ ap (put d₀ 540) (sym t),
+    let z : length (take i ls) ≡ i = length-take-le i ls (omega arith) in
+    let t : take (i + 1) ls ≡ take i ls ++ (l ∷ []) = ap (λ (j : ℕ). take j ls) (add-one i) ∙ take-suc ls i noLogical (omega arith) in (
+      ap (λ (x : List LogicalPartition). length (slotsPart x)) t ∙ ap length (slots-snoc (take i ls) l) ∙ length-append (slotsPart (take i ls)) (slotPart l) ∙ omega (arith, q .1),
+      q .0 ∙ ap (λ (x : List ℕ). slotPut x i l) p ∙ ap (λ (j : ℕ). slotPut (slotsPut d₀ (take i ls)) j l) (sym z)
+          ∙ slots-turn d₀ (take i ls) l n (omega arith) (omega arith) (q .1)
+          ∙ ap (slotsPut d₀) (sym t),
     )
 
-pub slots-written : (d₀ d : List ℕ) (ls : List LogicalPartition) (i : ℕ) → length ls ≡ 24 → i ≡ 24
-    → length (slotsPart (take i ls)) ≡ 482 * i → d ≡ put d₀ 540 (slotsPart (take i ls)) → (d ≡ put d₀ 540 (slotsPart ls)) × (length (slotsPart ls) ≡ 11568)
-slots-written d₀ d ls i k z m p =
+pub all-put : (d₀ d : List ℕ) (ls : List LogicalPartition) (i : ℕ) → length ls ≡ 24 → i ≡ 24
+    → length (slotsPart (take i ls)) ≡ 480 * i → d ≡ slotsPut d₀ (take i ls) → (d ≡ slotsPut d₀ ls) × (length (slotsPart ls) ≡ 11520) × (length (tagsPart ls) ≡ 24)
+all-put d₀ d ls i k z m p =
     let a : take i ls ≡ ls = take-all i ls (omega arith) in
-    (p ∙ ap (λ (x : List LogicalPartition). put d₀ 540 (slotsPart x)) a, ap (λ (x : List LogicalPartition). length (slotsPart x)) (sym a) ∙ omega arith)
+    (p ∙ ap (slotsPut d₀) a, ap (λ (x : List LogicalPartition). length (slotsPart x)) (sym a) ∙ omega arith, length-tags ls ∙ k)
 
 pub code-written : (d d₁ d₂ d₃ : List ℕ) (h : MBRHeader) → length (h .«bootstrap_code») ≡ 440 → length (h .«disk_signature») ≡ 4 → length (h .«copy_protected») ≡ 2
-    → length d ≡ 12108 → d₁ ≡ put d 20 (h .«bootstrap_code») → d₂ ≡ put d₁ 460 (h .«disk_signature») → d₃ ≡ put d₂ 464 (h .«copy_protected»)
+    → length d ≡ 12084 → d₁ ≡ put d 20 (h .«bootstrap_code») → d₂ ≡ put d₁ 460 (h .«disk_signature») → d₃ ≡ put d₂ 464 (h .«copy_protected»)
     → (d₃ ≡ put d 20 (codePart h)) × (length (codePart h) ≡ 446)
 code-written d d₁ d₂ d₃ h a b c k e₁ e₂ e₃ =
     let x₁ : List ℕ = h .«bootstrap_code» in
@@ -55,7 +52,7 @@ code-written d d₁ d₂ d₃ h a b c k e₁ e₂ e₃ =
     let f₂ : d₂ ≡ put d 20 x₂ = behind d d₁ d₂ 20 440 x₁ (h .«disk_signature») a (omega arith) e₁ e₂ in
     (behind d d₂ d₃ 20 444 x₂ (h .«copy_protected») n₂ (omega arith) f₂ e₃, simp (length-append, a, b, c))
 
-pub entries-written : (d d₁ d₂ d₃ d₄ : List ℕ) (a b c e : MBRPartitionEntry) → length d ≡ 12108
+pub entries-written : (d d₁ d₂ d₃ d₄ : List ℕ) (a b c e : MBRPartitionEntry) → length d ≡ 12084
     → d₁ ≡ put d 466 (entryPart a) → d₂ ≡ put d₁ 484 (entryPart b) → d₃ ≡ put d₂ 502 (entryPart c) → d₄ ≡ put d₃ 520 (entryPart e)
     → d₄ ≡ put d 466 (entriesPart a b c e)
 entries-written d d₁ d₂ d₃ d₄ a b c e k e₁ e₂ e₃ e₄ =
@@ -66,7 +63,7 @@ entries-written d d₁ d₂ d₃ d₄ a b c e k e₁ e₂ e₃ e₄ =
     let f₃ : d₃ ≡ put d 466 x₃ = behind d d₂ d₃ 466 36 x₂ (entryPart c) refl (omega arith) f₂ e₃ in
     behind d d₃ d₄ 466 54 x₃ (entryPart e) refl (omega arith) f₃ e₄
 
-pub header-written : (d d₁ d₂ d₃ : List ℕ) (h : MBRHeader) → length d ≡ 12108
+pub header-written : (d d₁ d₂ d₃ : List ℕ) (h : MBRHeader) → length d ≡ 12084
     → (d₁ ≡ put d 20 (codePart h)) × (length (codePart h) ≡ 446)
     → d₂ ≡ put d₁ 466 (entriesPart (h .«partition_1») (h .«partition_2») (h .«partition_3») (h .«partition_4»))
     → (d₃ ≡ put d₂ 538 (h .«boot_signature»)) × (length (h .«boot_signature») ≡ 2) → (d₃ ≡ put d 20 (headerPart h)) × (length (headerPart h) ≡ 520)
@@ -78,7 +75,7 @@ header-written d d₁ d₂ d₃ h k e₁ e₂ e₃ =
     let f₂ : d₂ ≡ put d 20 x₂ = behind d d₁ d₂ 20 446 (codePart h) y (e₁ .1) (omega arith) (e₁ .0) e₂ in
     (behind d d₂ d₃ 20 518 x₂ (h .«boot_signature») n₂ (omega arith) f₂ (e₃ .0), length-append x₂ (h .«boot_signature») ∙ rw (n₂, e₃ .1))
 
-pub numbers-written : (d d₁ d₂ d₃ d₄ d₅ d₆ d₇ : List ℕ) (size disk align count cylinders heads sectors : ℕ) → length d ≡ 12108
+pub numbers-written : (d d₁ d₂ d₃ d₄ d₅ d₆ d₇ : List ℕ) (size disk align count cylinders heads sectors : ℕ) → length d ≡ 12084
     → d₁ ≡ put d 0 (bytesOf little 4 size) → d₂ ≡ put d₁ 4 (bytesOf little 4 disk) → d₃ ≡ put d₂ 8 (bytesOf little 4 align)
     → d₄ ≡ put d₃ 12 (bytesOf little 4 count) → d₅ ≡ put d₄ 16 (bytesOf little 2 cylinders) → d₆ ≡ put d₅ 18 (heads ∷ [])
     → d₇ ≡ put d₆ 19 (sectors ∷ []) → d₇ ≡ put d 0 (frontPart size disk align count cylinders heads sectors)

@@ -7,22 +7,22 @@ ghost use mathlib.Core.Path.{_≡_};
 ghost use Prim.Native.Nat.{_+_};
 ghost use lib.ListN.{length};
 ghost use Rattle.base.specs.Put.{put};
-ghost use Rattle.block.specs.Block.{codePart, entriesPart, headerPart, frontPart, slotsPart};
+ghost use Rattle.block.specs.Block.{codePart, entriesPart, headerPart, frontPart, slotsPart, tagsPart, slotsPut};
 
-// Every slot, the unused ones too.
+// Every slot, the unused ones too, and its tag.
 pub fn put_slots(d: &mut [u8], ls: [LogicalPartition; LOGICALS])
-    requires { ⌜ length (now d) ≡ 12108 ⌝ }
-    ensures { λ _. ⌜ (now (d .exit) ≡ put (now (d .entry)) 540 (slotsPart ls)) × (length (slotsPart ls) ≡ 11568) ⌝ }
+    requires { ⌜ length (now d) ≡ 12084 ⌝ }
+    ensures { λ _. ⌜ (now (d .exit) ≡ slotsPut (now (d .entry)) ls) × (length (slotsPart ls) ≡ 11520) × (length (tagsPart ls) ≡ 24) ⌝ }
 {
     for i in 0..LOGICALS {
         let l = ls[i];
-        slotwrite::put_slot(d, 540 + i * 482, l);
+        slotput::put_into(d, i, l);
     }
 }
 
 // Code, disk signature and copy mark of a header.
 fn put_code(d: &mut [u8], h: MBRHeader)
-    requires { ⌜ length (now d) ≡ 12108 ⌝ }
+    requires { ⌜ length (now d) ≡ 12084 ⌝ }
     ensures { λ _. ⌜ (now (d .exit) ≡ put (now (d .entry)) 20 (codePart h)) × (length (codePart h) ≡ 446) ⌝ }
 {
     let code = h.bootstrap_code;
@@ -41,7 +41,7 @@ fn put_entries(
     three: MBRPartitionEntry,
     four: MBRPartitionEntry,
 )
-    requires { ⌜ length (now d) ≡ 12108 ⌝ }
+    requires { ⌜ length (now d) ≡ 12084 ⌝ }
     ensures { λ _. ⌜ now (d .exit) ≡ put (now (d .entry)) 466 (entriesPart one two three four) ⌝ }
 {
     slotwrite::put_entry(d, 466, one);
@@ -52,7 +52,7 @@ fn put_entries(
 
 // The signature of a header.
 fn put_sign(d: &mut [u8], h: MBRHeader)
-    requires { ⌜ length (now d) ≡ 12108 ⌝ }
+    requires { ⌜ length (now d) ≡ 12084 ⌝ }
     ensures { λ _. ⌜ (now (d .exit) ≡ put (now (d .entry)) 538 (h .«boot_signature»)) × (length (h .«boot_signature») ≡ 2) ⌝ }
 {
     let sign = h.boot_signature;
@@ -61,7 +61,7 @@ fn put_sign(d: &mut [u8], h: MBRHeader)
 
 // A header's 520 bytes.
 pub fn put_header(d: &mut [u8], h: MBRHeader)
-    requires { ⌜ length (now d) ≡ 12108 ⌝ }
+    requires { ⌜ length (now d) ≡ 12084 ⌝ }
     ensures { λ _. ⌜ (now (d .exit) ≡ put (now (d .entry)) 20 (headerPart h)) × (length (headerPart h) ≡ 520) ⌝ }
 {
     put_code(d, h);
@@ -84,7 +84,7 @@ pub fn put_front(
     heads: u8,
     sectors: u8,
 )
-    requires { ⌜ length (now d) ≡ 12108 ⌝ }
+    requires { ⌜ length (now d) ≡ 12084 ⌝ }
     ensures { λ _. ⌜ now (d .exit) ≡ put (now (d .entry)) 0 (frontPart size disk align count cylinders heads sectors) ⌝ }
 {
     base::put32(d, 0, size);

@@ -14,7 +14,7 @@ ghost use Rattle.free.specs.Free.{primaryZones, logicalZones, free, view, more,
 
 // The positions of the logical partitions, after the extended area's first.
 fn logical_points(b: &[u8], first: u32) -> Points
-    requires { ⌜ (length (now b) ≡ 12108) × (tableIn (now b) .count ≤ 24) ⌝ }
+    requires { ⌜ (length (now b) ≡ 12084) × (tableIn (now b) .count ≤ 24) ⌝ }
     ensures { λ r. ⌜ (view r ≡ more (gives (first ∷ [])) (logicalZones (logicals (tableIn (now (b .entry)))))) × (r .count < 50) ⌝ }
 {
     let n = inside::count(b);
@@ -43,7 +43,7 @@ fn logical_points(b: &[u8], first: u32) -> Points
 
 // The positions of the primary partitions.
 fn primary_points(b: &[u8]) -> Points
-    requires { ⌜ length (now b) ≡ 12108 ⌝ }
+    requires { ⌜ length (now b) ≡ 12084 ⌝ }
     ensures { λ r. ⌜ (view r ≡ positions 0 (tableIn (now (b .entry)) .«disk_size») (primaryZones (primaries (tableIn (now (b .entry)) .header)))) × (r .count ≤ 10) ⌝ }
 {
     let one = inside::primary(b, 0);
@@ -55,7 +55,7 @@ fn primary_points(b: &[u8]) -> Points
 
 // Free runs of the table in a block, as the crate finds them.
 pub fn free_of(b: &[u8]) -> FreeAnswer
-    requires { ⌜ (length (now b) ≡ 12108) × (tableIn (now b) .count ≤ 24) ⌝ }
+    requires { ⌜ (length (now b) ≡ 12084) × (tableIn (now b) .count ≤ 24) ⌝ }
     ensures { λ r. ⌜ Told r (free (tableIn (now (b .entry)))) × (r .runs .count ≤ mostRuns) ⌝ }
 {
     let align = base::get32(b, 8);

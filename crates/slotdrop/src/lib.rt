@@ -6,21 +6,22 @@ ghost use Rattle.base.specs.Put.{put};
 ghost use Rattle.block.specs.Block.{part};
 ghost use Rattle.inblock.specs.Changed.{withoutSlot};
 
-// The n bytes behind a slot, one slot earlier.
-fn move_down(b: &mut [u8], to: usize, n: usize)
-    requires { ⌜ to + 482 + n ≤ length (now b) ⌝ }
-    ensures { λ _. ⌜ now (b .exit) ≡ put (now (b .entry)) to (part (now (b .entry)) (to + 482) n) ⌝ }
+// The n bytes from index `to + by` on, `by` places earlier.
+fn move_down(b: &mut [u8], to: usize, by: usize, n: usize)
+    requires { ⌜ (to + by + n ≤ length (now b)) × (1 ≤ by) ⌝ }
+    ensures { λ _. ⌜ now (b .exit) ≡ put (now (b .entry)) to (part (now (b .entry)) (to + by) n) ⌝ }
 {
     for i in 0..n {
-        b[to + i] = b[to + 482 + i];
+        b[to + i] = b[to + by + i];
     }
 }
 
-// Logical partition k of n, counted from 0, away.
+// Logical partition k of n, counted from 0, away: the slots behind it and their tags move.
 pub fn drop_slot(b: &mut [u8], n: usize, k: usize)
-    requires { ⌜ (length (now b) ≡ 12108) × (k < n) × (n ≤ 24) ⌝ }
+    requires { ⌜ (length (now b) ≡ 12084) × (k < n) × (n ≤ 24) ⌝ }
     ensures { λ _. ⌜ now (b .exit) ≡ withoutSlot (now (b .entry)) n k ⌝ }
 {
     base::put32(b, 12, (n - 1) as u32);
-    move_down(b, 540 + 482 * k, 482 * (n - 1 - k));
+    move_down(b, 540 + 480 * k, 480, 480 * (n - 1 - k));
+    move_down(b, 12060 + k, 1, n - 1 - k);
 }

@@ -8,7 +8,7 @@ use table::MaybeSectors;
 ghost use mathlib.Core.Path.{_≡_};
 ghost use Prim.Native.Nat.{_+_, _≤_};
 ghost use lib.ListN.{length};
-ghost use Rattle.block.specs.Block.{part, chsIn, entryIn, sectorsIn, lastIn, slotOf, slotTagged};
+ghost use Rattle.block.specs.Block.{part, chsIn, entryIn, sectorsIn, lastIn, slotOf};
 
 // The n bytes from index `at` on.
 pub fn part_of<'a>(b: &'a [u8], at: usize, n: usize) -> &'a [u8]
@@ -48,39 +48,39 @@ pub fn get_entry(s: &[u8], at: usize) -> MBRPartitionEntry
     }
 }
 
-// A number of sectors by its tag.
-fn get_sectors(s: &[u8], at: usize) -> MaybeSectors
-    requires { ⌜ at + 5 ≤ length (now s) ⌝ }
-    ensures { λ r. ⌜ r ≡ sectorsIn (now (s .entry)) at ⌝ }
+// A number of sectors, if a slot's tag has it.
+fn get_sectors(s: &[u8], at: usize, tag: u8) -> MaybeSectors
+    requires { ⌜ at + 4 ≤ length (now s) ⌝ }
+    ensures { λ r. ⌜ r ≡ sectorsIn tag (now (s .entry)) at ⌝ }
 {
-    if s[at] == 0 {
+    if tag % 2 == 0 {
         return MaybeSectors::Absent;
     }
-    MaybeSectors::Present(base::get32(s, at + 1))
+    MaybeSectors::Present(base::get32(s, at))
 }
 
-// An address by its tag.
-fn get_last(s: &[u8], at: usize) -> MaybeChs
-    requires { ⌜ at + 5 ≤ length (now s) ⌝ }
-    ensures { λ r. ⌜ r ≡ lastIn (now (s .entry)) at ⌝ }
+// An address, if a slot's tag has it.
+fn get_last(s: &[u8], at: usize, tag: u8) -> MaybeChs
+    requires { ⌜ at + 4 ≤ length (now s) ⌝ }
+    ensures { λ r. ⌜ r ≡ lastIn tag (now (s .entry)) at ⌝ }
 {
-    if s[at] == 0 {
+    if tag < 2 {
         return MaybeChs::Absent;
     }
-    MaybeChs::Present(get_chs(s, at + 1))
+    MaybeChs::Present(get_chs(s, at))
 }
 
-// The logical partition in the 482 bytes of a slot.
-pub fn get_slot(s: &[u8]) -> LogicalPartition
-    requires { ⌜ length (now s) ≡ 482 ⌝ }
-    ensures { λ r. ⌜ r ≡ slotOf (now (s .entry)) ⌝ }
+// The logical partition in the 480 bytes of a slot, by its tag.
+pub fn get_slot(s: &[u8], tag: u8) -> LogicalPartition
+    requires { ⌜ 480 ≤ length (now s) ⌝ }
+    ensures { λ r. ⌜ r ≡ slotOf tag (now (s .entry)) ⌝ }
 {
     let partition = get_entry(s, 0);
     let place = base::get32(s, 18);
-    let sectors = get_sectors(s, 22);
-    let first = get_chs(s, 27);
-    let last = get_last(s, 31);
-    let kept = ebr::kept_of(part_of(s, 36, 446));
+    let sectors = get_sectors(s, 22, tag);
+    let first = get_chs(s, 26);
+    let last = get_last(s, 30, tag);
+    let kept = ebr::kept_of(part_of(s, 34, 446));
     LogicalPartition {
         partition: partition,
         absolute_ebr_lba: DiskLba(place),
@@ -89,15 +89,4 @@ pub fn get_slot(s: &[u8]) -> LogicalPartition
         ebr_last_chs: last,
         kept: kept,
     }
-}
-
-// Are both tags of a slot 0 or 1?
-pub fn slot_tagged(s: &[u8]) -> bool
-    requires { ⌜ length (now s) ≡ 482 ⌝ }
-    ensures { λ r. ⌜ r ≡ slotTagged (now (s .entry)) ⌝ }
-{
-    if 1 < s[22] {
-        return false;
-    }
-    s[31] <= 1
 }

@@ -38,28 +38,24 @@ entry-written d d₁ d₂ d₃ d₄ d₅ d₆ at e h e₁ e₂ e₃ e₄ e₅ e�
     let f₅ : d₅ ≡ put d at x₅ = behind d d₄ d₅ at 10 x₄ _ refl (omega arith) f₄ e₅ in
     behind d d₅ d₆ at 14 x₅ _ refl (omega arith) f₅ e₆
 
--- a tag of 1 and five bytes in all
-pub tag-written : (d d₁ d₂ : List ℕ) (at : ℕ) (xs : List ℕ) → at + 5 ≤ length d → d₁ ≡ put d at (1 ∷ []) → d₂ ≡ put d₁ (at + 1) xs → d₂ ≡ put d at ((1 ∷ []) ++ xs)
-tag-written d d₁ d₂ at xs h e₁ e₂ = behind d d₁ d₂ at 1 (1 ∷ []) xs refl (omega arith) e₁ e₂
-
-pub front-written : (d d₁ d₂ d₃ d₄ d₅ : List ℕ) (at : ℕ) (l : LogicalPartition) → at + 36 ≤ length d
+pub front-written : (d d₁ d₂ d₃ d₄ d₅ : List ℕ) (at : ℕ) (l : LogicalPartition) → at + 34 ≤ length d
     → d₁ ≡ put d at (entryPart (l .partition)) → d₂ ≡ put d₁ (at + 18) (bytesOf little 4 (l .«absolute_ebr_lba» .0))
-    → d₃ ≡ put d₂ (at + 22) (sectorsPart (l .«ebr_sectors»)) → d₄ ≡ put d₃ (at + 27) (chsPart (l .«ebr_first_chs»))
-    → d₅ ≡ put d₄ (at + 31) (lastPart (l .«ebr_last_chs»)) → d₅ ≡ put d at (slotFront l)
+    → d₃ ≡ put d₂ (at + 22) (sectorsPart (l .«ebr_sectors»)) → d₄ ≡ put d₃ (at + 26) (chsPart (l .«ebr_first_chs»))
+    → d₅ ≡ put d₄ (at + 30) (lastPart (l .«ebr_last_chs»)) → d₅ ≡ put d at (slotFront l)
 front-written d d₁ d₂ d₃ d₄ d₅ at l h e₁ e₂ e₃ e₄ e₅ =
     let x₁ : List ℕ = entryPart (l .partition) in
     let x₂ : List ℕ = x₁ ++ bytesOf little 4 (l .«absolute_ebr_lba» .0) in
     let x₃ : List ℕ = x₂ ++ sectorsPart (l .«ebr_sectors») in
     let x₄ : List ℕ = x₃ ++ chsPart (l .«ebr_first_chs») in
-    let n₃ : length x₃ ≡ 27 = length-append x₂ (sectorsPart (l .«ebr_sectors»)) ∙ rw (length-sectors (l .«ebr_sectors»)) in
-    let n₄ : length x₄ ≡ 31 = length-append x₃ (chsPart (l .«ebr_first_chs»)) ∙ rw n₃ in
+    let n₃ : length x₃ ≡ 26 = length-append x₂ (sectorsPart (l .«ebr_sectors»)) ∙ rw (length-sectors (l .«ebr_sectors»)) in
+    let n₄ : length x₄ ≡ 30 = length-append x₃ (chsPart (l .«ebr_first_chs»)) ∙ rw n₃ in
     let f₂ : d₂ ≡ put d at x₂ = behind d d₁ d₂ at 18 x₁ _ refl (omega arith) e₁ e₂ in
     let f₃ : d₃ ≡ put d at x₃ = behind d d₂ d₃ at 22 x₂ _ refl (omega arith) f₂ e₃ in
-    let f₄ : d₄ ≡ put d at x₄ = behind d d₃ d₄ at 27 x₃ _ n₃ (omega arith) f₃ e₄ in
-    behind d d₄ d₅ at 31 x₄ _ n₄ (omega arith) f₄ e₅
+    let f₄ : d₄ ≡ put d at x₄ = behind d d₃ d₄ at 26 x₃ _ n₃ (omega arith) f₃ e₄ in
+    behind d d₄ d₅ at 30 x₄ _ n₄ (omega arith) f₄ e₅
 
-pub slot-written : (d d₁ d₂ : List ℕ) (at : ℕ) (l : LogicalPartition) → length (l .kept .«bootstrap_code») ≡ 446 → at + 482 ≤ length d
-    → d₁ ≡ put d at (slotFront l) → d₂ ≡ put d₁ (at + 36) (l .kept .«bootstrap_code») → (d₂ ≡ put d at (slotPart l)) × (length (slotPart l) ≡ 482)
+pub slot-written : (d d₁ d₂ : List ℕ) (at : ℕ) (l : LogicalPartition) → length (l .kept .«bootstrap_code») ≡ 446 → at + 480 ≤ length d
+    → d₁ ≡ put d at (slotFront l) → d₂ ≡ put d₁ (at + 34) (l .kept .«bootstrap_code») → (d₂ ≡ put d at (slotPart l)) × (length (slotPart l) ≡ 480)
 unfolding slotPart
 slot-written d d₁ d₂ at l n h e₁ e₂ =
-    (behind d d₁ d₂ at 36 (slotFront l) _ (length-front l) (omega arith) e₁ e₂, length-slot l n)
+    (behind d d₁ d₂ at 34 (slotFront l) _ (length-front l) (omega arith) e₁ e₂, length-slot l n)

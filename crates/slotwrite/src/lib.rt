@@ -6,12 +6,9 @@ use table::MaybeChs;
 use table::MaybeSectors;
 ghost use mathlib.Core.Path.{_≡_};
 ghost use Prim.Native.Nat.{_+_, _≤_};
-ghost use lib.ListN.{length, replicate};
+ghost use lib.ListN.{length};
 ghost use Rattle.base.specs.Put.{put};
 ghost use Rattle.block.specs.Block.{chsPart, entryPart, sectorsPart, lastPart, slotFront, slotPart};
-
-// The tag of a value that is there.
-const PRESENT: u8 = 1;
 
 fn put_chs(d: &mut [u8], at: usize, c: CHS)
     requires { ⌜ at + 4 ≤ length (now d) ⌝ }
@@ -36,49 +33,40 @@ pub fn put_entry(d: &mut [u8], at: usize, e: MBRPartitionEntry)
     base::put32(d, at + 14, e.sectors);
 }
 
-// An absent value: its tag and its bytes are zero.
-fn put_absent(d: &mut [u8], at: usize)
-    requires { ⌜ at + 5 ≤ length (now d) ⌝ }
-    ensures { λ _. ⌜ now (d .exit) ≡ put (now (d .entry)) at (replicate 5 0) ⌝ }
-{
-    base::copy_in(d, at, b"\x00\x00\x00\x00\x00");
-}
-
-// A tag and a number of sectors.
+// A number of sectors; zeros for an absent one.
 fn put_sectors(d: &mut [u8], at: usize, m: MaybeSectors)
-    requires { ⌜ at + 5 ≤ length (now d) ⌝ }
+    requires { ⌜ at + 4 ≤ length (now d) ⌝ }
     ensures { λ _. ⌜ now (d .exit) ≡ put (now (d .entry)) at (sectorsPart m) ⌝ }
 {
     match m {
         MaybeSectors::Absent => {
-            put_absent(d, at);
+            base::put32(d, at, 0);
         }
         MaybeSectors::Present(v) => {
-            base::put8(d, at, PRESENT);
-            base::put32(d, at + 1, v);
+            base::put32(d, at, v);
         }
     }
 }
 
-// A tag and an address.
+// An address; zeros for an absent one.
 fn put_last(d: &mut [u8], at: usize, m: MaybeChs)
-    requires { ⌜ at + 5 ≤ length (now d) ⌝ }
+    requires { ⌜ at + 4 ≤ length (now d) ⌝ }
     ensures { λ _. ⌜ now (d .exit) ≡ put (now (d .entry)) at (lastPart m) ⌝ }
 {
     match m {
         MaybeChs::Absent => {
-            put_absent(d, at);
+            let none = CHS::empty();
+            put_chs(d, at, none);
         }
         MaybeChs::Present(c) => {
-            base::put8(d, at, PRESENT);
-            put_chs(d, at + 1, c);
+            put_chs(d, at, c);
         }
     }
 }
 
-// The 36 bytes of a logical partition before its code.
+// The 34 bytes of a logical partition before its code.
 fn put_slot_front(d: &mut [u8], at: usize, l: LogicalPartition)
-    requires { ⌜ at + 36 ≤ length (now d) ⌝ }
+    requires { ⌜ at + 34 ≤ length (now d) ⌝ }
     ensures { λ _. ⌜ now (d .exit) ≡ put (now (d .entry)) at (slotFront l) ⌝ }
 {
     let e = l.partition;
@@ -87,17 +75,17 @@ fn put_slot_front(d: &mut [u8], at: usize, l: LogicalPartition)
     let sectors = l.ebr_sectors;
     put_sectors(d, at + 22, sectors);
     let first = l.ebr_first_chs;
-    put_chs(d, at + 27, first);
+    put_chs(d, at + 26, first);
     let last = l.ebr_last_chs;
-    put_last(d, at + 31, last);
+    put_last(d, at + 30, last);
 }
 
-// A logical partition's 482 bytes.
+// A logical partition's 480 bytes.
 pub fn put_slot(d: &mut [u8], at: usize, l: LogicalPartition)
-    requires { ⌜ at + 482 ≤ length (now d) ⌝ }
-    ensures { λ _. ⌜ (now (d .exit) ≡ put (now (d .entry)) at (slotPart l)) × (length (slotPart l) ≡ 482) ⌝ }
+    requires { ⌜ at + 480 ≤ length (now d) ⌝ }
+    ensures { λ _. ⌜ (now (d .exit) ≡ put (now (d .entry)) at (slotPart l)) × (length (slotPart l) ≡ 480) ⌝ }
 {
     put_slot_front(d, at, l);
     let code = l.kept.bootstrap_code;
-    base::copy_in(d, at + 36, &code);
+    base::copy_in(d, at + 34, &code);
 }

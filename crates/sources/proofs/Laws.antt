@@ -33,7 +33,7 @@ use Rattle.plan.specs.Plan.{noSlot, slotsFrom, slotOver, slotsOver, storeOf, pi
 use Rattle.plan.proofs.Laws.{over-map, old-map, lbas-map, records-map, length-pieces, lbas-wide, Wide, all-each, each-at}
 use Rattle.table.specs.declared.LogicalPartition.{LogicalPartition}
 use Rattle.table.specs.Table.{noLogical}
-use Rattle.block.specs.Block.{part, slotOf, slotAt, tableIn}
+use Rattle.block.specs.Block.{part, slotOf, slotAt, tagAt, tableIn}
 use Rattle.block.proofs.Inside.{slot-in}
 use Rattle.settled.specs.Settle.{Held, settledIn}
 use Rattle.settled.proofs.Laws.{settled-long, held-long, held-kept}
@@ -216,7 +216,7 @@ each-by : (l : List LogicalPartition) → ((i : ℕ) → i < length l → CodeLo
 each-by [] f = tt
 each-by (a ∷ l) f = (f 0 (omega arith), each-by l (λ i h. f (suc i) (omega arith)))
 
-slot-code : (b : List ℕ) (i : ℕ) → length b ≡ 12108 → i < 24 → CodeLong (slotOf (slotAt b i))
+slot-code : (b : List ℕ) (i : ℕ) → length b ≡ 12084 → i < 24 → CodeLong (slotOf (tagAt b i) (slotAt b i))
 unfolding part keptOf
 slot-code b i h k = simp (length-take, length-drop) (omega arith)
 

@@ -9,7 +9,7 @@ ghost use Rattle.bysector.specs.Find.{findSays, spotSaid};
 
 // The number of the primary or logical partition that holds a sector: 7.
 pub fn find(b: &[u8], sector: u32) -> Spot
-    requires { ⌜ (length (now b) ≡ 12108) × (tableIn (now b) .count ≤ 24) ⌝ }
+    requires { ⌜ (length (now b) ≡ 12084) × (tableIn (now b) .count ≤ 24) ⌝ }
     ensures { λ r. ⌜ spotSaid r ≡ findSays (tableIn (now (b .entry))) sector ⌝ }
 {
     let n: usize = 4;

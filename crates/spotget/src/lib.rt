@@ -8,7 +8,7 @@ ghost use Rattle.lookup.specs.Numbers.{getSays, gotSaid};
 
 // The entry of a partition number.
 pub fn get(b: &[u8], number: usize) -> Got
-    requires { ⌜ (length (now b) ≡ 12108) × (tableIn (now b) .count ≤ 24) ⌝ }
+    requires { ⌜ (length (now b) ≡ 12084) × (tableIn (now b) .count ≤ 24) ⌝ }
     ensures { λ r. ⌜ gotSaid r ≡ getSays (tableIn (now (b .entry))) number ⌝ }
 {
     if number == 0 {

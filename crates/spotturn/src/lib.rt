@@ -12,7 +12,7 @@ ghost use Rattle.bysector.specs.Find.{numberOf, turned, spotSaid};
 
 // The first logical partition that holds a sector; the search ends at a hit or a refusal.
 fn among_logicals(b: &[u8], sector: u32) -> Spot
-    requires { ⌜ (length (now b) ≡ 12108) × (tableIn (now b) .count ≤ 24) ⌝ }
+    requires { ⌜ (length (now b) ≡ 12084) × (tableIn (now b) .count ≤ 24) ⌝ }
     ensures { λ r. ⌜ spotSaid r ≡ numberOf (amongLogicals (tableIn (now (b .entry))) sector) ⌝ }
 {
     let n = inside::count(b);
@@ -29,7 +29,7 @@ fn among_logicals(b: &[u8], sector: u32) -> Spot
 
 // What a hit among the primaries leads to: an extended entry is never answered.
 pub fn turn(b: &[u8], sector: u32, number: usize, e: MBRPartitionEntry) -> Spot
-    requires { ⌜ (length (now b) ≡ 12108) × (tableIn (now b) .count ≤ 24) ⌝ }
+    requires { ⌜ (length (now b) ≡ 12084) × (tableIn (now b) .count ≤ 24) ⌝ }
     ensures { λ r. ⌜ spotSaid r ≡ turned (tableIn (now (b .entry))) sector (some (numbered number e)) ⌝ }
 {
     if e.is_extended() {

@@ -128,7 +128,7 @@ pub fn write_into(t: MBR, x: &[u8], out: &mut [u8]) -> Written
     if LOGICALS < t.count {
         return refuse(t, 6);
     }
-    let mut b = [0u8; 12108];
+    let mut b = [0u8; 12084];
     hold::hold(&mut b, t);
     let r = write_block(&b, x, out);
     left::finish(r, t, &b)

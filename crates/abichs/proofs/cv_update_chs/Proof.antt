@@ -1,5 +1,3 @@
-use mathlib.Core.Path.{sym, _∙_}
-use borrow.Author.Tests.{not-true, not-false}
 use Rattle.base.proofs.Tests.{tests}
 use Rattle.push.specs.Answers.{geometryIn}
 use Rattle.abichs.proofs.Laws.{slot-refused, slot-done}
@@ -11,16 +9,13 @@ returns : tie.Need-returns
 returns c =
     search tests
 
-slot-tagged-requires : tie.Need-slot-tagged-requires
-slot-tagged-requires c κs = search needs
-
-same-length : tie.Need-same-length
-same-length c = search needs
+slice-read-tag : tie.Need-slice-read-tag
+slice-read-tag c = search needs
 
 returns-2 : tie.Need-returns-2
 returns-2 c =
-    let a = c .before .before .before .before .before .args in
-    slot-refused (geometryIn (a .cylinders) (a .heads) (a .sectors)) (a .slot .now) (c .before .before .before .if1 .left) (sym (c .before .slot-tagged .ensures) ∙ not-true _ (c .if2 .taken))
+    let a = c .before .before .before .before .args in
+    slot-refused (geometryIn (a .cylinders) (a .heads) (a .sectors)) (a .slot .now) (c .before .before .if1 .left) (c .if2 .taken)
 
 get-slot-requires : tie.Need-get-slot-requires
 get-slot-requires c κs = search needs
@@ -28,25 +23,23 @@ get-slot-requires c κs = search needs
 update-on-requires : tie.Need-update-on-requires
 update-on-requires c κs = search needs
 
-same-length-2 : tie.Need-same-length-2
-same-length-2 c = search needs
+same-length : tie.Need-same-length
+same-length c = search needs
 
 returns-3 : tie.Need-returns-3
 returns-3 c =
-    let a = c .before .before .before .before .before .before .before .before .before .before .before .args in
+    let a = c .before .before .before .before .before .before .before .before .before .before .args in
     let q = c .before .before .update-on .ensures in
-    slot-done (geometryIn (a .cylinders) (a .heads) (a .sectors)) (a .slot .now) (c .before .before .before .before .before .before .before .before .before .if1 .left) _ _ _ (sym (c .before .before .before .before .before .before .before .slot-tagged .ensures) ∙ not-false _ (c .before .before .before .before .before .before .if2 .left))
-    (c .before .before .before .before .get-slot .ensures) (q .0) (q .1)
+    slot-done (geometryIn (a .cylinders) (a .heads) (a .sectors)) (a .slot .now) (c .before .before .before .before .before .before .before .before .if1 .left) _ _ _ (c .before .before .before .before .before .before .if2 .left) (c .before .before .before .before .get-slot .ensures) (q .0) (q .1)
 
 pub cv-update-chs-spec : {M : Type 1} → statement M
 cv-update-chs-spec =
     tie.close
     (tie.spec
     returns
-    slot-tagged-requires
-    same-length
+    slice-read-tag
     returns-2
     get-slot-requires
     update-on-requires
-    same-length-2
+    same-length
     returns-3)

@@ -1,8 +1,7 @@
 use mathlib.Core.Path.{ap, _∙_}
 use mathlib.Core.List.{List}
-use Prim.Native.Nat.{ℕ, _+_, _*_}
-use Rattle.base.specs.Put.{put}
-use Rattle.block.specs.Block.{slotPart}
+use Prim.Native.Nat.{ℕ}
+use Rattle.block.specs.Block.{slotPut}
 use Rattle.inblock.specs.Changed.{withSlot}
 use borrow.Author.Needs.{needs}
 use Rattle.inplace.proofs.add_slot.Statement.{statement}
@@ -17,14 +16,8 @@ cast-put32 c = search needs
 put32-requires : tie.Need-put32-requires
 put32-requires c κs = search needs
 
-mul-put-slot : tie.Need-mul-put-slot
-mul-put-slot c = search needs
-
-add-put-slot : tie.Need-add-put-slot
-add-put-slot c = search needs
-
-put-slot-requires : tie.Need-put-slot-requires
-put-slot-requires c κs = search needs
+put-into-requires : tie.Need-put-into-requires
+put-into-requires c κs = search needs
 
 same-length : tie.Need-same-length
 same-length c = search needs
@@ -33,7 +26,7 @@ returns : tie.Need-returns
 unfolding withSlot
 returns c =
     let a = c .before .before .before .before .before .before .before .before .before .args in
-    c .before .before .put-slot .ensures .0 ∙ ap (λ (x : List ℕ). put x (540 + 482 * a .n) (slotPart (a .l))) (c .before .before .before .before .before .before .put32 .ensures)
+    c .before .before .put-into .ensures .0 ∙ ap (λ (x : List ℕ). slotPut x (a .n) (a .l)) (c .before .before .before .before .before .before .put32 .ensures)
 
 pub add-slot-spec : {M : Type 1} → statement M
 add-slot-spec =
@@ -42,8 +35,6 @@ add-slot-spec =
     add-put32
     cast-put32
     put32-requires
-    mul-put-slot
-    add-put-slot
-    put-slot-requires
+    put-into-requires
     same-length
     returns)

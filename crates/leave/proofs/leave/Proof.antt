@@ -2,8 +2,7 @@ use lib.ListN.{length, take}
 use Prim.Native.Nat.{_-_, _≤_, _<_}
 use mathlib.Core.Path.{_≡_, refl, _∙_}
 use native.Mathlib.Omega.{arith}
-use Rattle.base.specs.Put.{put}
-use Rattle.block.specs.Block.{slotsPart, tableIn}
+use Rattle.block.specs.Block.{slotsPut, tableIn}
 use Rattle.block.specs.Fits.{SlotsFit}
 use Rattle.settled.specs.Settle.{settledIn}
 use Rattle.leave.proofs.Laws.{leave-start, turn-held, turn-in, turn-none, turn-same, turn-put, leave-end}
@@ -12,7 +11,7 @@ use Rattle.leave.proofs.leave.Statement.{statement}
 use Rattle.leave.proofs.leave.Tie as tie
 
 abbrev Inv-loop : tie.InvT-loop
-Inv-loop b₀ x n i₀ b i = (i ≤ n) × (length b ≡ length b₀) × (b ≡ put b₀ 540 (slotsPart (take i (settledIn (tableIn b₀) x)))) × SlotsFit (take i (settledIn (tableIn b₀) x))
+Inv-loop b₀ x n i₀ b i = (i ≤ n) × (length b ≡ length b₀) × (b ≡ slotsPut b₀ (take i (settledIn (tableIn b₀) x))) × SlotsFit (take i (settledIn (tableIn b₀) x))
 
 abbrev μ-loop : tie.MeasureT-loop
 μ-loop b₀ x n i₀ b i = n - i

@@ -30,8 +30,14 @@ add-part-of c = search needs
 part-of-requires : tie.Need-part-of-requires Inv-loop μ-loop
 part-of-requires c κs = search needs
 
+add-get-slot : tie.Need-add-get-slot Inv-loop μ-loop
+add-get-slot c = search needs
+
+shared-slice-read-get-slot : tie.Need-shared-slice-read-get-slot Inv-loop μ-loop
+shared-slice-read-get-slot c = search needs
+
 get-slot-requires : tie.Need-get-slot-requires Inv-loop μ-loop
-get-slot-requires c κs = c .part-of .ensures .1
+get-slot-requires c κs = search needs
 
 mul-ls : tie.Need-mul-ls Inv-loop μ-loop
 mul-ls c = search needs
@@ -46,15 +52,16 @@ loop-less : tie.Need-loop-less Inv-loop μ-loop
 loop-less c = search needs
 
 loop-again : tie.Need-loop-again Inv-loop μ-loop
-loop-again c = let l = c .before .before .before .loop in
-    let t = c .before .before .loop-test .taken in (
+loop-again c = let l = c .before .before .before .before .loop in
+    let t = c .before .before .before .loop-test .taken in (
       search needs,
       (
         length-set (l .ls) (l .i) (c .get-slot .result) ∙ l .inv .1 .0,
-        slots-more (c .before .before .before .before .before .before .args .b .now) _ (l .ls) (c .get-slot .result) (l .i)
+        slots-more (c .before .before .before .before .before .before .before .args .b .now) _ _ (l .ls) (c .get-slot .result) (l .i)
             (omega (arith, l .inv .1 .0, t))
             (l .inv .1 .1)
-            (c .before .part-of .ensures .0)
+            refl
+            (c .before .before .part-of .ensures .0)
             (c .get-slot .ensures),
       ),
     )
@@ -74,6 +81,8 @@ get-slots-spec =
     mul-part-of
     add-part-of
     part-of-requires
+    add-get-slot
+    shared-slice-read-get-slot
     get-slot-requires
     mul-ls
     array-set-from-ls

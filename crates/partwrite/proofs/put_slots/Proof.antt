@@ -1,16 +1,15 @@
-use Rattle.block.specs.Block.{slotsPart}
-use Rattle.base.specs.Put.{put}
+use Rattle.block.specs.Block.{slotsPart, slotsPut}
 use lib.ListN.{length, take}
 use native.Mathlib.Omega.{arith}
 use Prim.Native.Nat.{_≤_, _-_, _*_}
 use mathlib.Core.Path.{_≡_, refl}
 use borrow.Author.Needs.{needs}
-use Rattle.partwrite.proofs.Parts.{slots-start, slots-turn, slots-written}
+use Rattle.partwrite.proofs.Parts.{all-start, all-turn, all-put}
 use Rattle.partwrite.proofs.put_slots.Statement.{statement}
 use Rattle.partwrite.proofs.put_slots.Tie as tie
 
 abbrev Inv-loop : tie.InvT-loop
-Inv-loop d₀ ls i₀ d i = (i ≤ 24) × ((length d ≡ length d₀) × ((length (slotsPart (take i ls)) ≡ 482 * i) × (d ≡ put d₀ 540 (slotsPart (take i ls)))))
+Inv-loop d₀ ls i₀ d i = (i ≤ 24) × ((length d ≡ length d₀) × ((length (slotsPart (take i ls)) ≡ 480 * i) × (d ≡ slotsPut d₀ (take i ls))))
 
 abbrev μ-loop : tie.MeasureT-loop
 μ-loop d₀ ls i₀ d i = 24 - i
@@ -21,7 +20,7 @@ long c = c .good .1 .0 .1 .0 .1
 
 loop-holds : tie.Need-loop-holds Inv-loop μ-loop
 loop-holds c = let s = c .before in
-    (search needs, (refl, slots-start (s .args .d .now) (s .args .t2)))
+    (search needs, (refl, all-start (s .args .d .now) (s .args .t2)))
 
 mul-l : tie.Need-mul-l Inv-loop μ-loop
 mul-l c = search needs
@@ -29,14 +28,8 @@ mul-l c = search needs
 array-copy-out-l : tie.Need-array-copy-out-l Inv-loop μ-loop
 array-copy-out-l c = search needs
 
-mul-put-slot : tie.Need-mul-put-slot Inv-loop μ-loop
-mul-put-slot c = search needs
-
-add-put-slot : tie.Need-add-put-slot Inv-loop μ-loop
-add-put-slot c = search needs
-
-put-slot-requires : tie.Need-put-slot-requires Inv-loop μ-loop
-put-slot-requires c κs = search needs
+put-into-requires : tie.Need-put-into-requires Inv-loop μ-loop
+put-into-requires c κs = search needs
 
 add-i : tie.Need-add-i Inv-loop μ-loop
 add-i c = search needs
@@ -47,10 +40,9 @@ loop-less c = search needs
 loop-again : tie.Need-loop-again Inv-loop μ-loop
 loop-again c = let s = c .before .before .before .before .before .before .before .before in
     let l = c .before .before .before .before .before .before .loop in
-    let u = c .before .before .put-slot .ensures in
-    let k = c .before .before .put-slot .kept .0 in
+    let u = c .before .before .put-into .ensures in
     let t = c .before .before .before .before .before .loop-test .taken in
-    (search needs, (omega (arith, l .inv .1 .0), slots-turn (s .args .d .now) (l .d) _ (s .args .t2) (l .i) (long s) (omega (arith, t)) (s .pre) (l .inv .1 .1 .0) (l .inv .1 .1 .1) u))
+    (search needs, (omega (arith, l .inv .1 .0), all-turn (s .args .d .now) (l .d) _ (s .args .t2) (l .i) (long s) (omega (arith, t)) (s .pre) (l .inv .1 .1 .0) (l .inv .1 .1 .1) u))
 
 same-length : tie.Need-same-length Inv-loop μ-loop
 same-length c = search needs
@@ -58,7 +50,7 @@ same-length c = search needs
 returns : tie.Need-returns Inv-loop μ-loop
 returns c = let s = c .before .before .before in
     let l = c .before .loop in
-    slots-written (s .args .d .now) _ (s .args .t2) (l .i) (long s) (omega (arith, l .inv .0, c .loop-test .left)) (l .inv .1 .1 .0) (l .inv .1 .1 .1)
+    all-put (s .args .d .now) _ (s .args .t2) (l .i) (long s) (omega (arith, l .inv .0, c .loop-test .left)) (l .inv .1 .1 .0) (l .inv .1 .1 .1)
 
 pub put-slots-spec : {M : Type 1} → statement M
 put-slots-spec =
@@ -69,9 +61,7 @@ put-slots-spec =
     loop-holds
     mul-l
     array-copy-out-l
-    mul-put-slot
-    add-put-slot
-    put-slot-requires
+    put-into-requires
     add-i
     loop-less
     loop-again

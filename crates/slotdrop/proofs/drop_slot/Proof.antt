@@ -30,13 +30,25 @@ mul-move-down-2 c = search needs
 move-down-requires : tie.Need-move-down-requires
 move-down-requires c κs = search needs
 
+add-move-down-2 : tie.Need-add-move-down-2
+add-move-down-2 c = search needs
+
+sub-move-down-3 : tie.Need-sub-move-down-3
+sub-move-down-3 c = search needs
+
+sub-move-down-4 : tie.Need-sub-move-down-4
+sub-move-down-4 c = search needs
+
+move-down-requires-2 : tie.Need-move-down-requires-2
+move-down-requires-2 c κs = search needs
+
 same-length : tie.Need-same-length
 same-length c = search needs
 
 returns : tie.Need-returns
 returns c =
-    let s = c .before .before .before .before .before .before .before .before .before in
-    dropped (s .args .b .now) _ _ (s .args .n) (s .args .k) (s .pre .0) (s .pre .1) (s .pre .2) (c .before .before .before .before .before .before .put32 .ensures) (c .before .before .move-down .ensures)
+    let s = c .before .before .before .before .before .before .before .before .before .before .before .before .before in
+    dropped (s .args .b .now) _ _ _ (s .args .n) (s .args .k) (s .pre .0) (s .pre .1) (s .pre .2) (c .before .before .before .before .before .before .before .before .before .before .put32 .ensures) (c .before .before .before .before .before .before .move-down .ensures) (c .before .before .move-down2 .ensures)
 
 pub drop-slot-spec : {M : Type 1} → statement M
 drop-slot-spec =
@@ -51,5 +63,9 @@ drop-slot-spec =
     sub-move-down-2
     mul-move-down-2
     move-down-requires
+    add-move-down-2
+    sub-move-down-3
+    sub-move-down-4
+    move-down-requires-2
     same-length
     returns)

@@ -9,13 +9,13 @@ use Rattle.slotdrop.proofs.move_down.Statement.{statement}
 use Rattle.slotdrop.proofs.move_down.Tie as tie
 
 abbrev Inv-loop : tie.InvT-loop
-Inv-loop b₀ to n i₀ b i = (i ≤ n) × ((length b ≡ length b₀) × (b ≡ put b₀ to (part b₀ (to + 482) i)))
+Inv-loop b₀ to by n i₀ b i = (i ≤ n) × ((length b ≡ length b₀) × (b ≡ put b₀ to (part b₀ (to + by) i)))
 
 abbrev μ-loop : tie.MeasureT-loop
-μ-loop b₀ to n i₀ b i = n - i
+μ-loop b₀ to by n i₀ b i = n - i
 
 loop-holds : tie.Need-loop-holds Inv-loop μ-loop
-loop-holds c = (search needs, (refl, down-start (c .args .b .now) (c .args .to)))
+loop-holds c = (search needs, (refl, down-start (c .args .b .now) (c .args .to) (c .args .by)))
 
 add-b : tie.Need-add-b Inv-loop μ-loop
 add-b c = search needs
@@ -42,7 +42,7 @@ loop-again : tie.Need-loop-again Inv-loop μ-loop
 loop-again c =
     let l = c .before .before .loop in
     let a = c .before .before .before .args in
-    (search needs, (search needs, down-turn (a .b .now) (l .b) (a .to) (l .i) (search needs) (l .inv .1 .1)))
+    (search needs, (search needs, down-turn (a .b .now) (l .b) (a .to) (a .by) (l .i) (search needs) (search needs) (l .inv .1 .1)))
 
 same-length : tie.Need-same-length Inv-loop μ-loop
 same-length c = search needs
@@ -51,7 +51,7 @@ returns : tie.Need-returns Inv-loop μ-loop
 returns c =
     let l = c .before .loop in
     let a = c .before .before .args in
-    down-end (a .b .now) (l .b) (a .to) (l .i) (a .n) (search needs) (search needs) (l .inv .1 .1)
+    down-end (a .b .now) (l .b) (a .to) (a .by) (l .i) (a .n) (search needs) (search needs) (l .inv .1 .1)
 
 pub move-down-spec : {M : Type 1} → statement M
 move-down-spec =

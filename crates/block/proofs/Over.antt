@@ -1,15 +1,19 @@
 -- What stands where in a list with other elements laid over a part of it. Assumes nothing.
 use mathlib.Core.Path.{_≡_, refl, sym, ap, _∙_}
 use mathlib.Core.List.{List, _++_}
+use mathlib.Core.Bool.{Bool, true, false}
 use Prim.Native.Nat.{ℕ, zero, suc, _+_, _-_, _≤_, _<_}
 use native.Mathlib.Omega.{arith}
+use lib.Dec.{ltb}
 use lib.ListN.{length, take, drop, getD, length-append, List·getD-append}
 use lib.Seq.{length-take-le, getD-take, getD-drop, getD-append-add, ext-getD}
+use borrow.Author.Tests.{ltb-true, ltb-false}
 use Rattle.base.specs.Bytes.{plus, from, bytesAt}
 use Rattle.base.specs.Put.{put}
 use Rattle.base.proofs.Bytes.{plus-eq}
+use Rattle.base.proofs.Put.{length-put}
 use Rattle.block.specs.Block.{part}
 use Rattle.block.proofs.Forth.{part-long}
 
 module _ {A : Type 0} (z : A) (s xs : List A) (at : ℕ) (h : at + length xs ≤ length s) where
   first : length (take at s) ≡ at
@@ -57,6 +61,68 @@ module _ (s : List ℕ) (at : ℕ) (xs : List ℕ) (h : at + length xs ≤ lengt
   pub put-within : (j : ℕ) → j < length xs → getD (put s at xs) (at + j) 0 ≡ getD xs j 0
   unfolding put
   put-within j k = over-within 0 s xs at h j k
+
+-- below k, from k on below k + m, or behind that
+pub cases : (P : ℕ → Type 0) (k m i : ℕ) → (i < k → P i) → (k ≤ i → i < k + m → P i) → (k + m ≤ i → P i) → P i
+cases P k m i x y z = go (ltb i k) (ltb i (k + m)) refl refl
+  where
+    go : (p q : Bool) → ltb i k ≡ p → ltb i (k + m) ≡ q → P i
+    go true q e f = x (ltb-true _ _ e)
+    go false true e f = y (ltb-false _ _ e) (ltb-true _ _ f)
+    go false false e f = z (ltb-false _ _ f)
+
+-- what is laid over two parts, one behind the other, can be laid in either order
+module _ (s : List ℕ) (a b : ℕ) (xs ys : List ℕ) (h : a + length xs ≤ b) (k : b + length ys ≤ length s) where
+  abbrev one : List ℕ
+  one = put s a xs
+
+  abbrev two : List ℕ
+  two = put s b ys
+
+  room : a + length xs ≤ length s
+  room = omega arith
+
+  m₁ : length one ≡ length s
+  m₁ = length-put s a xs room
+
+  m₂ : length two ≡ length s
+  m₂ = length-put s b ys k
+
+  k₁ : b + length ys ≤ length one
+  k₁ = omega (arith, m₁)
+
+  h₂ : a + length xs ≤ length two
+  h₂ = omega (arith, m₂, room)
+
+  abbrev Same : ℕ → Type 0
+  Same i = getD (put one b ys) i 0 ≡ getD (put two a xs) i 0
+
+  swap-behind : (i : ℕ) → a + length xs ≤ i → Same i
+  swap-behind i u =
+      let r : getD (put two a xs) i 0 ≡ getD two i 0 = put-behind two a xs h₂ i 1 u i (omega arith) (omega arith) in
+      let o : getD one i 0 ≡ getD s i 0 = put-behind s a xs room i 1 u i (omega arith) (omega arith) in
+      cases Same b (length ys) i
+      (λ v. put-before one b ys k₁ i 1 (omega arith) i (omega arith) (omega arith) ∙ o ∙ sym (r ∙ put-before s b ys k i 1 (omega arith) i (omega arith) (omega arith)))
+      (λ v w.
+      let z : b + (i - b) ≡ i = omega arith in
+      ap (λ (m : ℕ). getD (put one b ys) m 0) (sym z) ∙ put-within one b ys k₁ (i - b) (omega arith)
+      ∙ sym (r ∙ ap (λ (m : ℕ). getD two m 0) (sym z) ∙ put-within s b ys k (i - b) (omega arith)))
+      (λ v. put-behind one b ys k₁ i 1 v i (omega arith) (omega arith) ∙ o ∙ sym (r ∙ put-behind s b ys k i 1 v i (omega arith) (omega arith)))
+
+  swap-at : (i : ℕ) → Same i
+  swap-at i =
+      cases Same a (length xs) i
+      (λ u. put-before one b ys k₁ i 1 (omega arith) i (omega arith) (omega arith) ∙ put-before s a xs room i 1 (omega arith) i (omega arith) (omega arith)
+      ∙ sym (put-before two a xs h₂ i 1 (omega arith) i (omega arith) (omega arith) ∙ put-before s b ys k i 1 (omega arith) i (omega arith) (omega arith)))
+      (λ u v.
+      let z : a + (i - a) ≡ i = omega arith in
+      put-before one b ys k₁ i 1 (omega arith) i (omega arith) (omega arith) ∙ ap (λ (m : ℕ). getD one m 0) (sym z) ∙ put-within s a xs room (i - a) (omega arith)
+      ∙ sym (ap (λ (m : ℕ). getD (put two a xs) m 0) (sym z) ∙ put-within two a xs h₂ (i - a) (omega arith)))
+      (swap-behind i)
+
+  pub put-swap : put (put s a xs) b ys ≡ put (put s b ys) a xs
+  put-swap =
+      ext-getD 0 (put one b ys) (put two a xs) (length-put one b ys k₁ ∙ m₁ ∙ sym (length-put two a xs h₂ ∙ m₂)) (λ i v. swap-at i)
 
 -- bytes that are alike make the same list
 from-alike : (a b : List ℕ) (at k n : ℕ) → Alike a b (at + k) n → from a at k n ≡ from b at k n

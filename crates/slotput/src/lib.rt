@@ -1,0 +1,37 @@
+// A logical partition put into a slot of a block, with its tag.
+use table::LogicalPartition;
+use table::MaybeChs;
+use table::MaybeSectors;
+ghost use mathlib.Core.Path.{_≡_};
+ghost use Prim.Native.Nat.{_<_};
+ghost use lib.ListN.{length};
+ghost use Rattle.block.specs.Block.{slotPart, tagOf, slotPut};
+
+// The tag of a logical partition: which of its two values are there.
+pub fn tag_of(l: LogicalPartition) -> u8
+    ensures { λ r. ⌜ r ≡ tagOf l ⌝ }
+{
+    let sectors = l.ebr_sectors;
+    let last = l.ebr_last_chs;
+    match sectors {
+        MaybeSectors::Absent => match last {
+            MaybeChs::Absent => 0,
+            MaybeChs::Present(_) => 2,
+        },
+        MaybeSectors::Present(_) => match last {
+            MaybeChs::Absent => 1,
+            MaybeChs::Present(_) => 3,
+        },
+    }
+}
+
+// A logical partition into slot i of a block.
+pub fn put_into(b: &mut [u8], i: usize, l: LogicalPartition)
+    requires { ⌜ (length (now b) ≡ 12084) × (i < 24) ⌝ }
+    ensures { λ _. ⌜ now (b .exit) ≡ slotPut (now (b .entry)) i l ⌝ }
+    ensures { λ _. ⌜ length (slotPart l) ≡ 480 ⌝ }
+{
+    let tag = tag_of(l);
+    slotwrite::put_slot(b, 540 + 480 * i, l);
+    base::put8(b, 12060 + i, tag);
+}

@@ -2,7 +2,6 @@
 use base::Answer;
 use table::LogicalPartition;
 ghost use mathlib.Core.Path.{_≡_};
-ghost use Prim.Native.Nat.{_≤_};
 ghost use lib.ListN.{length};
 ghost use Rattle.base.specs.Said.{failure};
 ghost use Rattle.push.specs.Answers.{geometryIn};

@@ -6,9 +6,9 @@ use mathlib.Core.Option.{none}
 use Prim.Native.Nat.{ℕ, zero, suc, _+_, _*_, _%_, _≤_, _<_}
 use native.Mathlib.Nat.{add-zero, zero-add, add-assoc}
 use native.Mathlib.Omega.{arith}
-use lib.Dec.{eqb, leb, ltb}
+use lib.Dec.{eqb, ltb}
 use lib.ListN.{length, take, drop, getD, replicate, length-drop}
-use lib.Seq.{take-all, take-suc, take-add, take-take, drop-drop, getD-drop, length-take-le}
+use lib.Seq.{take-all, take-suc, drop-drop, getD-drop, length-take-le}
 use borrow.Author.Tests.{eqb-true, eqb-false, leb-true, ltb-true, ltb-false}
 use Rattle.base.specs.Pick.{pick}
 use Rattle.base.specs.Bytes.{Bytes, bytesAt, number, bytesOf, little}

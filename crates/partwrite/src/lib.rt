@@ -4,7 +4,6 @@ use mbr::MBRHeader;
 use table::LOGICALS;
 use table::LogicalPartition;
 ghost use mathlib.Core.Path.{_≡_};
-ghost use Prim.Native.Nat.{_+_};
 ghost use lib.ListN.{length};
 ghost use Rattle.base.specs.Put.{put};
 ghost use Rattle.block.specs.Block.{codePart, entriesPart, headerPart, frontPart, slotsPart, tagsPart, slotsPut};

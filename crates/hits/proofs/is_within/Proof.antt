@@ -4,7 +4,7 @@ use Rattle.base.specs.Pick.{pick}
 use Rattle.base.specs.Said.{Said, gives}
 use Rattle.base.proofs.Tests.{tests}
 use borrow.Author.Tests.{lt-leb, le-leb, lt-ltb, le-ltb}
-use mathlib.Core.Path.{_≡_, refl, sym}
+use mathlib.Core.Path.{_≡_, refl}
 use mathlib.Core.Bool.{Bool, true, false}
 use Prim.Native.Nat.{_<_, _^_}
 use native.Mathlib.Omega.{arith}

@@ -1,4 +1,3 @@
-use mathlib.Core.Path.{_∙_}
 use Rattle.tags.proofs.Tags.{four-and-four}
 use borrow.Author.Needs.{needs}
 use Rattle.tags.proofs.get64.Statement.{statement}

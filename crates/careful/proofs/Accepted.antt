@@ -26,12 +26,12 @@ use Rattle.sound.proofs.Test.{is-sound}
 use Rattle.links.specs.Links.{write}
 use Rattle.careful.specs.Stores.{moved, firstPlace, leftOut, lastOf, pushStores, skipStore, removeStore}
 use Rattle.careful.specs.Careful.{relist, roomNeeded, askChecks, lastEnd, spaceChecks, pushRefusals, pushChange, removeRefusals, removeChange}
-use Rattle.careful.specs.Demand3.{contentsOn, Safe, Whole, Asked}
-use Rattle.careful.proofs.Shown.{Shows, Heads, holds-heads}
+use Rattle.careful.specs.Demand3.{Whole, contentsOn, Safe}
+use Rattle.careful.proofs.Shown.{Shows, contents→shows, Heads, holds-heads}
 use Rattle.careful.proofs.Split.{split}
 use Rattle.careful.proofs.Push.{Room, push-safe}
 use Rattle.careful.proofs.Remove.{remove-safe, remove-first-safe, remove-only-safe, push-first-safe}
-use Rattle.careful.proofs.New.{NewOk, Fits, new-ok, new-good, new-writable, new-span, new-linkable}
+use Rattle.careful.proofs.New.{Asked, NewOk, Fits, new-ok, new-good, new-writable, new-span, new-linkable}
 
 -- all but the last
 unfoldable initOf : LogicalPartition → List LogicalPartition → List LogicalPartition
@@ -208,9 +208,9 @@ module _ (d : Disk) (t : Contents) (whole : Whole d) (small : t .size < 2 ^ 32) 
   out-of (some e) x ls z i h = drop-safe e x ls i h z
 
 -- the two changes
-module _ (d : Disk) (t : Contents) (whole : Whole d) (now : contentsOn d ≡ gives t) (r : Shows d t) where
-  small : t .size < 2 ^ 32
-  small = omega (arith, whole .small, r .size)
+module _ (d : Disk) (t : Contents) (whole : Whole d) (small : t .size < 2 ^ 32) (now : contentsOn d ≡ gives t) where
+  shows : Shows d t
+  shows = contents→shows d t now
 
   pub push-accepted : (room : ℕ) (q : Request) → Asked q → AllHold (pushRefusals room q t) → Safe d t (pushChange q t)
   unfolding pushRefusals pushChange spaceChecks
@@ -222,8 +222,8 @@ module _ (d : Disk) (t : Contents) (whole : Whole d) (now : contentsOn d ≡ giv
       let space : AllHold (spaceChecks q t) = hold-right (asks ++ pushes) (spaceChecks q t) upToSpace in
       let upToPush : AllHold (asks ++ pushes) = hold-left (asks ++ pushes) (spaceChecks q t) upToSpace in
       let ask : AllHold asks = hold-left asks pushes upToPush in
-      into d t whole small now r (is-sound t .to (ask .0)) q asked (ask .1) (extendedIn t) refl (t .logicals) refl (hold-right asks pushes upToPush) (space .0) (space .1 .0)
+      into d t whole small now shows (is-sound t .to (ask .0)) q asked (ask .1) (extendedIn t) refl (t .logicals) refl (hold-right asks pushes upToPush) (space .0) (space .1 .0)
 
   pub remove-accepted : (room n : ℕ) → AllHold (removeRefusals room n t) → Safe d t (removeChange n t)
   unfolding removeRefusals removeChange
-  remove-accepted room n h = out-of d t whole small now r (is-sound t .to (h .0)) (extendedIn t) refl (t .logicals) refl (n - 5) (ltb-true (n - 5) (length (t .logicals)) (h .1 .1 .0))
+  remove-accepted room n h = out-of d t whole small now shows (is-sound t .to (h .0)) (extendedIn t) refl (t .logicals) refl (n - 5) (ltb-true (n - 5) (length (t .logicals)) (h .1 .1 .0))

@@ -14,7 +14,8 @@ use Rattle.layover.proofs.Laws.{new-good, new-stored}
 use Rattle.sound.specs.Is.{All}
 use Rattle.sound.specs.Sound.{Contents}
 use Rattle.careful.specs.Careful.{Change}
-use Rattle.careful.specs.Demand3.{contentsOn, Safe, layAll, NoneTooMany, SafeLaid}
+use Rattle.careful.specs.Demand3.{contentsOn, Safe}
+use Rattle.careful.specs.Laid.{layAll, NoneTooMany, SafeLaid}
 
 all-take : {A : Type 0} (P : A → Type 0) (k : ℕ) (xs : List A) → All P xs → All P (take k xs)
 all-take P zero xs h = tt

@@ -9,7 +9,6 @@ pub mod Remove
 pub mod New
 pub mod Accepted
 pub mod Crate
-pub mod Demand3
 pub mod Output
+pub mod Demand3
 pub mod Laid
-pub mod Call

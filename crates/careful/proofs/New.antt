@@ -29,8 +29,12 @@ use Rattle.request.specs.declared.Request.{Request}
 use Rattle.push.specs.Push.{placeOf, sizeOf, fresh, newLogical, geometryChecks}
 use Rattle.sound.specs.Sound.{end, Within, IfThere}
 use Rattle.sound.proofs.Good.{Good, Span}
-use Rattle.careful.specs.Demand3.{Asked}
 use Rattle.careful.proofs.Push.{Writable, Linkable}
+
+-- type and heads are bytes, as they are in every call
+pub record Asked (q : Request) : Type 0 where
+  pub sys : q .sys < 256
+  pub heads : q .geometry .heads < 256
 
 and-right : (a b : Bool) → (a && b) ≡ true → b ≡ true
 and-right true b h = h

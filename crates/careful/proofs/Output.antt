@@ -55,17 +55,17 @@ below D k [] h = tt
 below D k (s ∷ ss) h = (omega (arith, h .0), below D k ss (h .1))
 
 -- what is written into the lent output is read back from it
-pub stores-back : (d : Disk) (t : Contents) (c : Change) (out : List ℕ) → Whole d → Safe d t c → storesIn (outAfter out (gives c)) (countOf c) ≡ c .stores
+pub stores-back : (d : Disk) (t : Contents) (c : Change) (out : List ℕ) → d .size < 2 ^ 32 → Safe d t c → storesIn (outAfter out (gives c)) (countOf c) ≡ c .stores
 unfolding outAfter put
-stores-back d t c out w s = stores-front (c .stores) (drop (0 + length (storesBytes (c .stores))) out) (s .records) (below (d .size) (w .small) (c .stores) (s .inside))
+stores-back d t c out h s = stores-front (c .stores) (drop (0 + length (storesBytes (c .stores))) out) (s .records) (below (d .size) h (c .stores) (s .inside))
 
 -- a whole disk stays whole
 whole-stored : (d : Disk) (s : Store) → Whole d → Record (s .bytes) → Whole (stored d s)
-whole-stored d s w r = record { small = rw (size-stored d s) (w .small); sectors = λ a h. go a (rw (size-stored d s) at h) (eqb a (s .lba)) refl }
+whole-stored d s w r = λ a h. go a (rw (size-stored d s) at h) (eqb a (s .lba)) refl
   where
     go : (a : ℕ) → a < d .size → (b : Bool) → eqb a (s .lba) ≡ b → Record (stored d s .sector a)
     go a h true q = rw (eqb-true a (s .lba) q, sector-same d s) r
-    go a h false q = rw (sector-other d s a (eqb-false a (s .lba) q)) (w .sectors a h)
+    go a h false q = rw (sector-other d s a (eqb-false a (s .lba) q)) (w a h)
 
 pub whole-after : (d : Disk) (ss : List Store) → Whole d → All (λ s. Record (s .bytes)) ss → Whole (after d ss)
 unfolding after

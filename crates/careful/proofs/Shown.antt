@@ -9,7 +9,7 @@ use native.Mathlib.Nat.{add-zero}
 use native.Mathlib.Omega.{arith}
 use lib.ListN.{length, take}
 use Rattle.base.specs.Bytes.{Record}
-use Rattle.base.specs.Said.{gives}
+use Rattle.base.specs.Said.{Said, gives, refuses, andThen}
 use Rattle.base.specs.Row.{Row}
 use Rattle.base.proofs.Row.{row-zip}
 use Rattle.entry.specs.declared.MBRPartitionEntry.{MBRPartitionEntry}
@@ -47,6 +47,16 @@ read→shows d t e =
 pub read→contents : (d : Disk) (t : Table) → read d ≡ gives t → contentsOn d ≡ gives (contents t)
 unfolding contentsOn
 read→contents d t e = rw e
+
+pub contents→shows : (d : Disk) (t : Contents) → contentsOn d ≡ gives t → Shows d t
+unfolding contentsOn
+contents→shows d t h = go (read d) refl h
+  where
+    go : (s : Said Table) → read d ≡ s → andThen s (λ u. gives (contents u)) ≡ gives t → Shows d t
+    go (gives u) e k =
+        let z : contents u ≡ t = cc in
+        subst (Shows d) z (read→shows d u e)
+    go (refuses j) e k = let w : _≡_ {A = ℕ} 0 1 = cc in absurd (omega arith)
 
 pub shows→contents : (d : Disk) (t : Contents) → Shows d t → Aligned (usedStarts (primariesOf t ++ parts (t .logicals))) → contentsOn d ≡ gives t
 shows→contents d t s a =

@@ -137,7 +137,7 @@ pub seen-ok : (d : Disk) → Whole d → (a : ℕ) (b : Body) (n : Next) → see
 seen-ok d w a b n e =
     let s : Seen (view d a) b n = seen→view (view d a) b n e in
     let f = view→facts d a (s .header) (s .is) in
-    let o : EbrOk (s .header) = subst EbrOk (f .1) (ebr-ok (d .sector a) (w .sectors a (f .0))) in
+    let o : EbrOk (s .header) = subst EbrOk (f .1) (ebr-ok (d .sector a) (w a (f .0))) in
     let p : BodyOk (bodyIn (s .header)) = record {
       kept = o .kept;
       flag = ap (λ (h : EBRHeader). flagOk (h .«partition_1»)) (sym (f .1)) ∙ f .2 .1 .0;

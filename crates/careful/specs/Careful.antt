@@ -10,16 +10,13 @@ use Rattle.base.specs.Checks.{Check, _!_, answer}
 use Rattle.entry.specs.declared.MBRPartitionEntry.{MBRPartitionEntry}
 use Rattle.entry.specs.Entry.{noEntry, used, extended}
 use Rattle.extract.specs.Disk.{Disk, Store}
-use Rattle.extract.specs.Extract.{diskOf}
-use Rattle.extract.specs.Answers.{checkSays}
 use Rattle.table.specs.declared.LogicalPartition.{LogicalPartition}
 use Rattle.table.specs.declared.MBR.{MBR}
-use Rattle.read.specs.Read.{Table, read, tableOf}
-use Rattle.remove.specs.Remove.{removedTable}
+use Rattle.read.specs.Read.{Table, read, readSays}
 use Rattle.address.specs.declared.Geometry.{Geometry}
 use Rattle.request.specs.declared.Request.{Request}
-use Rattle.push.specs.Push.{placeOf, sizeOf, laterThan, newLogical, pushChecks, pushed, pushTable}
-use Rattle.sound.specs.Sound.{Contents, contentsOf, extendedIn, areaEnd, end, soundb}
+use Rattle.push.specs.Push.{placeOf, sizeOf, laterThan, newLogical, pushChecks, pushed}
+use Rattle.sound.specs.Sound.{Contents, extendedIn, areaEnd, end, soundb}
 pub use Rattle.stored.specs.Stored.{roomNeeded}
 use Rattle.careful.specs.Stores.{firstPlace, leftOut, lastOf, pushStores, removeStore}
 
@@ -103,27 +100,24 @@ asAsked t q =
       «disk_size» = t .«disk_size»;
     }
 
--- the tables that the crate's own push and removal give
-unfoldable pub cratePush : Request → Table → Contents
-cratePush q t = contentsOf (pushTable (asAsked (tableOf t) q) (q .sys) (q .start) (q .sectors))
-
-unfoldable pub crateRemove : ℕ → Table → Contents
-crateRemove n t = contentsOf (removedTable (tableOf t) n)
-
 -- a table under the first-place rule
 unfoldable pub inFirstPlace : Contents → Contents
 inFirstPlace t = relist t (firstPlace (areaOf t) (t .logicals))
 
+-- a careful change of what was read: reading's refusals, then the listed ones
+abbrev pub changing : (Contents → List Check) → (Contents → Change) → Said Table → Said Change
+changing refusals change s = andThen s (λ t. answer (refusals (contents t)) (change (contents t)))
+
 -- careful push and careful removal on a disk, with so much room lent for the stores
 unfoldable pub carefulPush : Disk → ℕ → Request → Said Change
-carefulPush d room q = andThen (read d) (λ t. answer (pushRefusals room q (contents t)) (pushChange q (contents t)))
+carefulPush d room q = changing (pushRefusals room q) (pushChange q) (read d)
 
 unfoldable pub carefulRemove : Disk → ℕ → ℕ → Said Change
-carefulRemove d room n = andThen (read d) (λ t. answer (removeRefusals room n (contents t)) (removeChange n (contents t)))
+carefulRemove d room n = changing (removeRefusals room n) (removeChange n) (read d)
 
 -- and on an extract
 unfoldable pub carefulPushSays : List ℕ → ℕ → Request → Said Change
-carefulPushSays x room q = andThen (checkSays x) (λ e. carefulPush (diskOf x) room q)
+carefulPushSays x room q = changing (pushRefusals room q) (pushChange q) (readSays x)
 
 unfoldable pub carefulRemoveSays : List ℕ → ℕ → ℕ → Said Change
-carefulRemoveSays x room n = andThen (checkSays x) (λ e. carefulRemove (diskOf x) room n)
+carefulRemoveSays x room n = changing (removeRefusals room n) (removeChange n) (readSays x)

@@ -1,22 +1,29 @@
--- Demand 3: pull the drive at any moment of a careful change. Assumes nothing.
-use Prim.Native.Nat.{ℕ, _^_, _≤_, _<_}
+-- Demand 3: pull the drive at any moment of a careful change. The contracts of `careful_push` and `careful_remove` promise it. Assumes nothing.
+use Prim.Native.Nat.{ℕ, _+_, _*_, _≤_, _<_}
 use mathlib.Core.Path.{_≡_}
+use mathlib.Core.Option.{none}
 use mathlib.Core.Logic.{_⊎_}
-use mathlib.Core.List.{List, [], _∷_}
-use lib.ListN.{length, take}
+use mathlib.Core.List.{List}
+use lib.ListN.{length, take, drop}
 use Rattle.base.specs.Bytes.{Record}
 use Rattle.base.specs.Said.{Said, gives, refuses, andThen}
-use Rattle.base.specs.Checks.{Check, AllHold, FirstFail}
+use Rattle.base.specs.Checks.{Check, first-fail, AllHold, FirstFail}
 use Rattle.entry.specs.declared.MBRPartitionEntry.{MBRPartitionEntry}
 use Rattle.entry.specs.Entry.{endOf}
-use Rattle.extract.specs.Disk.{Disk, Store, after}
-use Rattle.extract.specs.Extract.{extractChecks, mostRecords, diskOf}
-use Rattle.layover.specs.Layover.{newRecords, newExtract}
-use Rattle.read.specs.Read.{Table, read}
+use Rattle.extract.specs.Disk.{Disk, after}
+use Rattle.table.specs.declared.MBR.{MBR}
+use Rattle.read.specs.Read.{Table, read, readSays, tableOf}
 use Rattle.request.specs.declared.Request.{Request}
+use Rattle.push.specs.Push.{pushSays, pushTable}
+use Rattle.remove.specs.Remove.{removeChecks, removedTable}
 use Rattle.sound.specs.Is.{All}
-use Rattle.sound.specs.Sound.{Contents, primariesOf, Used, Extended, Sound}
-use Rattle.careful.specs.Careful.{contents, Change, pushRefusals, pushChange, removeRefusals, removeChange, cratePush, crateRemove, inFirstPlace, carefulPush, carefulRemove, carefulPushSays, carefulRemoveSays}
+use Rattle.sound.specs.Sound.{Contents, contentsOf, primariesOf, Used, Extended, Sound}
+use Rattle.careful.specs.Careful.{contents, Change, pushRefusals, removeRefusals, asAsked, inFirstPlace}
+use Rattle.careful.specs.Output.{storesIn}
+
+-- each sector of the disk is a record
+abbrev pub Whole : Disk → Type 0
+Whole d = (a : ℕ) → a < d .size → Record (d .sector a)
 
 -- what a disk reads as, alignment left out
 unfoldable pub contentsOn : Disk → Said Contents
@@ -47,54 +54,44 @@ pub record Safe (d : Disk) (t : Contents) (c : Change) : Type 0 where
   -- the table after is sound
   pub sound : Sound (c .result)
 
--- what a careful change says: refused exactly as listed; otherwise the change, which is safe and ends in the crate's own table under the first-place rule
-pub record Careful (d : Disk) (t : Contents) (refusals : List Check) (c : Change) (crate : Contents) (says : Said Change) : Type 0 where
-  pub refused : (k : ℕ) → FirstFail refusals k → says ≡ refuses k
-  pub accepted : AllHold refusals → says ≡ gives c
-  pub safe : AllHold refusals → Safe d t c
-  pub same : AllHold refusals → c .result ≡ inFirstPlace crate
+-- refused with the number k, and no lent byte is changed
+abbrev pub Refused : List ℕ → Said ℕ → List ℕ → ℕ → Type 0
+Refused out said left k = (said ≡ refuses k) × (left ≡ out)
 
--- a disk of fewer than 2^32 sectors, each a record: such is the disk of an extract
-pub record Whole (d : Disk) : Type 0 where
-  pub small : d .size < 2 ^ 32
-  pub sectors : (a : ℕ) → a < d .size → Record (d .sector a)
+-- accepted, on an extract that reads as the table t
+pub record Accepted (t : Contents) (crate : MBR → Type 0) (out : List ℕ) (said : Said ℕ) (left : List ℕ) : Type 0 where
+  -- the crate's own change is accepted too, and gives this table
+  pub own : MBR
+  pub same : crate own
+  -- so many stores stand in the lent output; the bytes behind them are as before
+  pub number : ℕ
+  pub counted : said ≡ gives number
+  pub rest : drop (number * 516) left ≡ drop (number * 516) out
+  -- put on any disk that reads as t they are safe, and end in the crate's own table under the first-place rule
+  pub safe : (d : Disk) → Whole d → contentsOn d ≡ gives t → Safe d t (record { stores = storesIn left number; result = inFirstPlace (contentsOf own) })
 
--- type and heads are bytes
-pub record Asked (q : Request) : Type 0 where
-  pub sys : q .sys < 256
-  pub heads : q .geometry .heads < 256
-
--- Demand 3, of a disk
-pub record Demand3 (d : Disk) : Type 0 where
+-- Demand 3 of one call: the lent extract and output, what the call said, and the output that it left
+pub record Demand3 (refusals : Contents → List Check) (crate : Table → MBR → Type 0) (x out : List ℕ) (said : Said ℕ) (left : List ℕ) : Type 0 where
   -- reading's refusals come first
-  pub unread-push : (k room : ℕ) (q : Request) → read d ≡ refuses k → carefulPush d room q ≡ refuses k
-  pub unread-remove : (k room n : ℕ) → read d ≡ refuses k → carefulRemove d room n ≡ refuses k
+  pub unread : (k : ℕ) → readSays x ≡ refuses k → Refused out said left k
   -- then those listed; sound, 20, is the first of them
-  pub push : (t : Table) → read d ≡ gives t → (room : ℕ) (q : Request) → Asked q
-      → Careful d (contents t) (pushRefusals room q (contents t)) (pushChange q (contents t)) (cratePush q t) (carefulPush d room q)
-  pub remove : (t : Table) → read d ≡ gives t → (room n : ℕ)
-      → Careful d (contents t) (removeRefusals room n (contents t)) (removeChange n (contents t)) (crateRemove n t) (carefulRemove d room n)
+  pub refused : (t : Table) → readSays x ≡ gives t → (k : ℕ) → FirstFail (refusals (contents t)) k → Refused out said left k
+  -- there is no other ground to refuse
+  pub accepted : (t : Table) → readSays x ≡ gives t → AllHold (refusals (contents t)) → Accepted (contents t) (crate t) out said left
 
--- Demand 3, of lent bytes: the extract's refusals come first, then the disk that it stands for has it
-pub record OfExtract (x : List ℕ) : Type 0 where
-  pub broken-push : (k room : ℕ) (q : Request) → FirstFail (extractChecks x) k → carefulPushSays x room q ≡ refuses k
-  pub broken-remove : (k room n : ℕ) → FirstFail (extractChecks x) k → carefulRemoveSays x room n ≡ refuses k
-  pub push : AllHold (extractChecks x) → (room : ℕ) (q : Request) → carefulPushSays x room q ≡ carefulPush (diskOf x) room q
-  pub remove : AllHold (extractChecks x) → (room n : ℕ) → carefulRemoveSays x room n ≡ carefulRemove (diskOf x) room n
-  pub disk : AllHold (extractChecks x) → Demand3 (diskOf x)
+-- the crate's own push of what is asked for, on the table t with that alignment and geometry: the new partition's number, and the table u
+pub record Pushes (q : Request) (t : Table) (u : MBR) : Type 0 where
+  pub number : pushSays (asAsked (tableOf t) q) (q .sys) (q .start) (q .sectors) ≡ gives (length (t .logicals) + 5)
+  pub table : pushTable (asAsked (tableOf t) q) (q .sys) (q .start) (q .sectors) ≡ u
 
--- an extract with stores laid over it one after another
-unfoldable pub layAll : List ℕ → List Store → List ℕ
-layAll x [] = x
-layAll x (s ∷ ss) = layAll (newExtract x (s .lba) (s .bytes)) ss
+-- the crate's own removal of partition n from the table t: no refusal, and the table u
+pub record Removes (n : ℕ) (t : Table) (u : MBR) : Type 0 where
+  pub unrefused : first-fail (removeChecks (tableOf t) n) ≡ none
+  pub table : removedTable (tableOf t) n ≡ u
 
--- none of them is refused as a 65th record
-abbrev pub NoneTooMany : List ℕ → List Store → Type 0
-NoneTooMany x [] = Unit {0}
-NoneTooMany x (s ∷ ss) = (length (newRecords x (s .lba) (s .bytes)) ≤ mostRecords) × NoneTooMany (newExtract x (s .lba) (s .bytes)) ss
+-- Demand 3 of a careful push, and of a careful removal
+abbrev pub PushDemand3 : Request → List ℕ → List ℕ → Said ℕ → List ℕ → Type 0
+PushDemand3 q x out said left = Demand3 (pushRefusals (length out) q) (Pushes q) x out said left
 
--- a safe change laid over the extract: after each store it reads as the table before or after, after all as the table after
-pub record SafeLaid (x : List ℕ) (t : Contents) (c : Change) : Type 0 where
-  pub stops : (k : ℕ) → NoneTooMany x (take k (c .stores))
-      → (contentsOn (diskOf (layAll x (take k (c .stores)))) ≡ gives t) ⊎ (contentsOn (diskOf (layAll x (take k (c .stores)))) ≡ gives (c .result))
-  pub done : NoneTooMany x (c .stores) → contentsOn (diskOf (layAll x (c .stores))) ≡ gives (c .result)
+abbrev pub RemoveDemand3 : ℕ → List ℕ → List ℕ → Said ℕ → List ℕ → Type 0
+RemoveDemand3 n x out said left = Demand3 (removeRefusals (length out) n) (Removes n) x out said left

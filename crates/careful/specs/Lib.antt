@@ -1,6 +1,6 @@
 pub mod Stores
 pub mod Careful
-pub mod Demand3
 pub mod Output
+pub mod Demand3
+pub mod Laid
 pub mod DiskK
-pub mod Call

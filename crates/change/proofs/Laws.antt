@@ -10,24 +10,21 @@ use lib.ListN.{length}
 use borrow.Author.Tests.{leb-true}
 use Rattle.base.specs.Pick.{pick}
 use Rattle.base.specs.Put.{put}
-use Rattle.base.specs.Said.{Said, gives, refuses, andThen, failure}
+use Rattle.base.specs.Said.{Said, gives, refuses, failure}
 use Rattle.base.specs.Checks.{Check, _!_, checked, answer, first-fail, AllHold}
 use Rattle.base.proofs.Checks.{checked-some, checked-none, checked-append, append-fails, append-holds, none-fails, hold-right}
 use Rattle.entry.specs.declared.MBRPartitionEntry.{MBRPartitionEntry}
 use Rattle.entry.specs.Entry.{endOf}
-use Rattle.extract.specs.Extract.{diskOf}
-use Rattle.extract.specs.Answers.{checkSays}
-use Rattle.extract.specs.declared.Extract.{Extract}
 use Rattle.table.specs.declared.LogicalPartition.{LogicalPartition}
 use Rattle.table.specs.declared.MBR.{MBR}
 use Rattle.chain.specs.Facts.{at}
-use Rattle.read.specs.Read.{Table, read, readSays, tableOf, tableFor}
+use Rattle.read.specs.Read.{Table, readSays, tableOf, tableFor}
 use Rattle.request.specs.declared.Request.{Request}
 use Rattle.push.specs.Push.{placeOf, sizeOf, fresh, newLogical, laterThan, roundChecks, placeChecks, pushChecks}
 use Rattle.push.specs.Address.{complete, addressed}
 use Rattle.push.proofs.Steps.{and-answer}
 use Rattle.sound.specs.Sound.{Contents, contentsOf, extendedIn, areaEnd, end, soundb}
-use Rattle.careful.specs.Careful.{contents, Change, roomNeeded, askChecks, lastEnd, spaceChecks, pushRefusals, pushChange, carefulPush, carefulPushSays}
+use Rattle.careful.specs.Careful.{contents, Change, roomNeeded, askChecks, lastEnd, spaceChecks, pushRefusals, pushChange, changing, carefulPushSays}
 use Rattle.careful.specs.Output.{storesBytes, outAfter, countOf, counted}
 use Rattle.careful.proofs.Accepted.{place-hold}
 use Rattle.careful.proofs.Crate.{slots-front}
@@ -54,10 +51,7 @@ unfolding tableOf
 contents-of t = λ i. record { width = t .width; size = t .size; header = t .header; logicals = slots-front (t .logicals) i }
 
 module _ (cs : Contents → List Check) (ch : Contents → Change) where
-  abbrev pub onRead : Said Table → Said Change
-  onRead s = andThen s (λ t. answer (cs (contents t)) (ch (contents t)))
-
-  pub read-refused : (s : Said Table) (old : List ℕ) (k : ℕ) → failure s ≡ some k → (refuses k ≡ counted (onRead s)) × (old ≡ outAfter old (onRead s))
+  pub read-refused : (s : Said Table) (old : List ℕ) (k : ℕ) → failure s ≡ some k → (refuses k ≡ counted (changing cs ch s)) × (old ≡ outAfter old (changing cs ch s))
   unfolding outAfter
   read-refused (gives t) old k h = let w : _≡_ {A = ℕ} 0 1 = cc in absurd (omega arith)
   read-refused (refuses j) old k h =
@@ -65,7 +59,7 @@ module _ (cs : Contents → List Check) (ch : Contents → Change) where
       (ap refuses e, refl)
 
   pub read-told : (s : Said Table) (r : Changed) (old new : List ℕ) → failure s ≡ none → Tells r old new (cs (contentsOf (tableFor s))) (ch (contentsOf (tableFor s)) .stores)
-      → (changedSaid r ≡ counted (onRead s)) × (new ≡ outAfter old (onRead s))
+      → (changedSaid r ≡ counted (changing cs ch s)) × (new ≡ outAfter old (changing cs ch s))
   read-told (refuses j) r old new h t = let w : _≡_ {A = ℕ} 0 1 = cc in absurd (omega arith)
   read-told (gives t) r old new h w =
       let u : Tells r old new (cs (contents t)) (ch (contents t) .stores) = subst (λ (c : Contents). Tells r old new (cs c) (ch c .stores)) (contents-of t) w in (
@@ -73,26 +67,19 @@ module _ (cs : Contents → List Check) (ch : Contents → Change) where
         u .1 ∙ sym (out-answer old (cs (contents t)) (ch (contents t))),
       )
 
-  pub on-extract : (x : List ℕ) (s : Said Extract) → andThen s (λ e. onRead (read (diskOf x))) ≡ onRead (andThen s (λ e. read (diskOf x)))
-  on-extract x (gives e) = refl
-  on-extract x (refuses k) = refl
-
 module _ (x : List ℕ) (room : ℕ) where
-  push-says : (q : Request) → onRead (pushRefusals room q) (pushChange q) (readSays x) ≡ carefulPushSays x room q
-  unfolding carefulPushSays carefulPush readSays
-  push-says q = sym (on-extract (pushRefusals room q) (pushChange q) x (checkSays x))
-
   pub push-unread : (q : Request) (old : List ℕ) (k : ℕ) → failure (readSays x) ≡ some k
       → (refuses k ≡ counted (carefulPushSays x room q)) × (old ≡ outAfter old (carefulPushSays x room q))
-  push-unread q old k h = rw (← push-says q) (read-refused (pushRefusals room q) (pushChange q) (readSays x) old k h)
+  unfolding carefulPushSays
+  push-unread q old k h = read-refused (pushRefusals room q) (pushChange q) (readSays x) old k h
 
   pub push-read : (q : Request) (r : Changed) (old new : List ℕ) (t : MBR) → failure (readSays x) ≡ none → t ≡ tableFor (readSays x)
       → Tells r old new (pushRefusals room q (contentsOf t)) (pushChange q (contentsOf t) .stores)
       → (changedSaid r ≡ counted (carefulPushSays x room q)) × (new ≡ outAfter old (carefulPushSays x room q))
+  unfolding carefulPushSays
   push-read q r old new t h e w =
-      rw (← push-says q)
-      (read-told (pushRefusals room q) (pushChange q) (readSays x) r old new h
-      (subst (λ (m : MBR). Tells r old new (pushRefusals room q (contentsOf m)) (pushChange q (contentsOf m) .stores)) e w))
+      read-told (pushRefusals room q) (pushChange q) (readSays x) r old new h
+      (subst (λ (m : MBR). Tells r old new (pushRefusals room q (contentsOf m)) (pushChange q (contentsOf m) .stores)) e w)
 
 -- the new partition's place and end
 module _ (later : Bool) (q : Request) where

@@ -14,7 +14,7 @@ use Rattle.read.specs.Read.{Table, headerOn, read, readSays, tableOf}
 use Rattle.read.proofs.Facts.{read→reads}
 use Rattle.remove.specs.Remove.{removedTable}
 use Rattle.careful.specs.Demand3.{contentsOn}
-use Rattle.careful.proofs.Call.{good-read}
+use Rattle.careful.proofs.Demand3.{good-read}
 use Rattle.writing.specs.Write.{tableStores, extractOver, writeChecks}
 use Rattle.writing.specs.Answers.{writeSays, writeLeaves}
 use Rattle.writing.proofs.Ranges.{TableIn, written-good, written-disk}

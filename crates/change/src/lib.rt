@@ -15,6 +15,7 @@ ghost use Rattle.push.specs.Push.{laterThan, newLogical};
 ghost use Rattle.sound.specs.Sound.{contentsOf};
 ghost use Rattle.careful.specs.Careful.{pushRefusals, pushChange, carefulPushSays};
 ghost use Rattle.careful.specs.Output.{outAfter, counted};
+ghost use Rattle.careful.specs.Demand3.{PushDemand3};
 ghost use Rattle.pushwrite.specs.Behind.{changedSaid, Tells, storesBehind};
 ghost use Rattle.change.specs.Change.{lastIn, checksBehind};
 
@@ -73,10 +74,11 @@ fn push_on(t: MBR, q: Request, out: &mut [u8]) -> Changed
     }
 }
 
-// Careful push: reading's refusals, 20, 23, push's, 12, 21, 19; else the stores, and how many they are.
+// Careful push: reading's refusals, 20, 23, push's, 12, 21, 19; else the stores, and how many they are. The drive may be pulled at any moment.
 pub fn careful_push(x: &[u8], q: Request, out: &mut [u8]) -> Changed
     ensures { λ r. ⌜ changedSaid r ≡ counted (carefulPushSays (now (x .entry)) (length (now (out .entry))) q) ⌝ }
     ensures { λ r. ⌜ now (out .exit) ≡ outAfter (now (out .entry)) (carefulPushSays (now (x .entry)) (length (now (out .entry))) q) ⌝ }
+    ensures { λ r. ⌜ PushDemand3 q (now (x .entry)) (now (out .entry)) (changedSaid r) (now (out .exit)) ⌝ }
 {
     let r = read::read_from(x);
     let answer = r.answer;

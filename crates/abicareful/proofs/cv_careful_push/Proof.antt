@@ -25,7 +25,7 @@ returns c =
     let a = c .before .before .before .before .before .before .before .before .args in
     let q = c .before .before .before .before .before .request .ensures in
     let s = c .before .before .before .careful-push .ensures .0 ∙ ap (λ (r : Request). counted (carefulPushSays (a .x .now) (length (a .out .now)) r)) q in
-    let l = c .before .before .before .careful-push .ensures .1 ∙ ap (λ (r : Request). outAfter (a .out .now) (carefulPushSays (a .x .now) (length (a .out .now)) r)) q in
+    let l = c .before .before .before .careful-push .ensures .1 .0 ∙ ap (λ (r : Request). outAfter (a .out .now) (carefulPushSays (a .x .now) (length (a .out .now)) r)) q in
     (c .of-changed .ensures ∙ ap packed s, l)
 
 pub cv-careful-push-spec : {M : Type 1} → statement M

@@ -1,7 +1,11 @@
 use mathlib.Core.Path.{sym, ap, _∙_}
-use Rattle.read.proofs.Facts.{says-few}
-use Rattle.extract.specs.Answers.{outcomeSaid}
 use lib.ListN.{length}
+use Rattle.base.specs.Bytes.{Bytes}
+use Rattle.base.proofs.Bytes.{bytes-all}
+use Rattle.extract.specs.Answers.{outcomeSaid}
+use Rattle.read.proofs.Facts.{says-few}
+use Rattle.careful.proofs.New.{Asked}
+use Rattle.careful.proofs.Demand3.{push-demand3}
 use Rattle.change.proofs.Laws.{push-unread, push-read}
 use borrow.Author.Needs.{needs}
 use Rattle.change.proofs.careful_push.Statement.{statement}
@@ -21,11 +25,20 @@ push-on-requires c κs =
     let f = says-few (c .before .before .before .before .before .before .before .args .x .now) in
     rw (c .before .before .before .before .read-from .ensures .1) f
 
+-- the extract's elements, the type and the heads are bytes
+are-bytes : (c : tie.After-shared-slice-known) → Bytes (c .before .args .x .now)
+are-bytes c = bytes-all (c .before .args .x .now) (λ i. c .shared-slice-known .given i .fits)
+
+asked : (c : tie.After-shared-slice-known) → Asked (c .before .args .q)
+asked c = record { sys = search needs; heads = search needs }
+
 returns : tie.Need-returns
 returns c =
     let a = c .before .before .before .before .before .before .args in
     let h = sym (c .before .before .before .read-from .ensures .0) ∙ ap outcomeSaid (c .before .answer .given .1) in
-    push-unread (a .x .now) (length (a .out .now)) (a .q) (a .out .now) _ h
+    let s = c .before .before .before .before .before in
+    let p = push-unread (a .x .now) (length (a .out .now)) (a .q) (a .out .now) _ h in
+    (p .0, (p .1, push-demand3 (a .x .now) (are-bytes s) (a .out .now) _ _ (a .q) (asked s) (p .0) (p .1)))
 
 same-length : tie.Need-same-length
 same-length c = search needs
@@ -34,7 +47,9 @@ returns-2 : tie.Need-returns-2
 returns-2 c =
     let a = c .before .before .before .before .before .before .before .before .before .before .args in
     let h = sym (c .before .before .before .before .before .before .before .read-from .ensures .0) ∙ ap outcomeSaid (c .before .before .before .before .before .enum-told .given .1) in
-    push-read (a .x .now) (length (a .out .now)) (a .q) (c .before .before .push-on .result) (a .out .now) _ _ h (c .before .before .before .before .before .before .before .read-from .ensures .1) (c .before .before .push-on .ensures)
+    let s = c .before .before .before .before .before .before .before .before .before in
+    let p = push-read (a .x .now) (length (a .out .now)) (a .q) (c .before .before .push-on .result) (a .out .now) _ _ h (c .before .before .before .before .before .before .before .read-from .ensures .1) (c .before .before .push-on .ensures) in
+    (p .0, (p .1, push-demand3 (a .x .now) (are-bytes s) (a .out .now) _ _ (a .q) (asked s) (p .0) (p .1)))
 
 pub careful-push-spec : {M : Type 1} → statement M
 careful-push-spec =

@@ -14,7 +14,7 @@ same-length : tie.Need-same-length
 same-length c = search needs
 
 returns : tie.Need-returns
-returns c = (c .of-changed .ensures ∙ ap packed (c .before .before .before .careful-remove .ensures .0), c .before .before .before .careful-remove .ensures .1)
+returns c = (c .of-changed .ensures ∙ ap packed (c .before .before .before .careful-remove .ensures .0), c .before .before .before .careful-remove .ensures .1 .0)
 
 pub cv-careful-remove-spec : {M : Type 1} → statement M
 cv-careful-remove-spec =

@@ -1,7 +1,10 @@
 use mathlib.Core.Path.{sym, ap, _∙_}
-use Rattle.read.proofs.Facts.{says-few}
-use Rattle.extract.specs.Answers.{outcomeSaid}
 use lib.ListN.{length}
+use Rattle.base.specs.Bytes.{Bytes}
+use Rattle.base.proofs.Bytes.{bytes-all}
+use Rattle.extract.specs.Answers.{outcomeSaid}
+use Rattle.read.proofs.Facts.{says-few}
+use Rattle.careful.proofs.Demand3.{remove-demand3}
 use Rattle.removal.proofs.Laws.{remove-unread, remove-read}
 use borrow.Author.Needs.{needs}
 use Rattle.removal.proofs.careful_remove.Statement.{statement}
@@ -21,11 +24,16 @@ remove-on-requires c κs =
     let f = says-few (c .before .before .before .before .before .before .before .args .x .now) in
     rw (c .before .before .before .before .read-from .ensures .1) f
 
+-- the extract's elements are bytes
+are-bytes : (c : tie.After-shared-slice-known) → Bytes (c .before .args .x .now)
+are-bytes c = bytes-all (c .before .args .x .now) (λ i. c .shared-slice-known .given i .fits)
+
 returns : tie.Need-returns
 returns c =
     let a = c .before .before .before .before .before .before .args in
     let h = sym (c .before .before .before .read-from .ensures .0) ∙ ap outcomeSaid (c .before .answer .given .1) in
-    remove-unread (a .x .now) (length (a .out .now)) (a .number) (a .out .now) _ h
+    let p = remove-unread (a .x .now) (length (a .out .now)) (a .number) (a .out .now) _ h in
+    (p .0, (p .1, remove-demand3 (a .x .now) (are-bytes (c .before .before .before .before .before)) (a .out .now) _ _ (a .number) (p .0) (p .1)))
 
 same-length : tie.Need-same-length
 same-length c = search needs
@@ -34,7 +42,8 @@ returns-2 : tie.Need-returns-2
 returns-2 c =
     let a = c .before .before .before .before .before .before .before .before .before .before .args in
     let h = sym (c .before .before .before .before .before .before .before .read-from .ensures .0) ∙ ap outcomeSaid (c .before .before .before .before .before .enum-told .given .1) in
-    remove-read (a .x .now) (length (a .out .now)) (a .number) (c .before .before .remove-on .result) (a .out .now) _ _ h (c .before .before .before .before .before .before .before .read-from .ensures .1) (c .before .before .remove-on .ensures)
+    let p = remove-read (a .x .now) (length (a .out .now)) (a .number) (c .before .before .remove-on .result) (a .out .now) _ _ h (c .before .before .before .before .before .before .before .read-from .ensures .1) (c .before .before .remove-on .ensures) in
+    (p .0, (p .1, remove-demand3 (a .x .now) (are-bytes (c .before .before .before .before .before .before .before .before .before)) (a .out .now) _ _ (a .number) (p .0) (p .1)))
 
 pub careful-remove-spec : {M : Type 1} → statement M
 careful-remove-spec =

@@ -13,16 +13,16 @@ use Rattle.base.specs.Pick.{pick, among}
 use Rattle.base.specs.Said.{Said, gives, refuses, refusal}
 use Rattle.base.specs.declared.Answer.{Answer}
 use Rattle.base.specs.declared.Answer.the-variants.{Done, Refused}
+use Rattle.base.proofs.Readings.{undone-injective, fromOption}
 use Rattle.base.specs.Checks.{Check, checked, first-fail, answer, Holding, AllHold, FirstFail}
 
 -- what an answer says determines it
 pub refusal-injective : (a b : Answer) → refusal a ≡ refusal b → a ≡ b
-refusal-injective Done Done h = refl
-refusal-injective Done (Refused k) h = let w : _≡_ {A = ℕ} 0 1 = cc in absurd (omega arith)
-refusal-injective (Refused k) Done h = let w : _≡_ {A = ℕ} 0 1 = cc in absurd (omega arith)
-refusal-injective (Refused k) (Refused j) h =
-    let e : k ≡ j = cc in
-    ap Refused e
+refusal-injective = undone-injective refusal (fromOption Refused Done) back
+  where
+    back : (a : Answer) → fromOption Refused Done (refusal a) ≡ a
+    back Done = refl
+    back (Refused k) = refl
 
 -- no check fails: all hold
 pub none-fails : (cs : List Check) → first-fail cs ≡ none → AllHold cs

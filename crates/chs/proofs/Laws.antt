@@ -1,11 +1,12 @@
 -- Laws of CHS addresses and their bytes. Assumes nothing.
-use mathlib.Core.Path.{_≡_, refl, sym, ap, _∙_}
+use mathlib.Core.Path.{_≡_, refl, sym, _∙_}
 use mathlib.Core.List.{List, [], _∷_, _++_}
 use Prim.Native.Nat.{ℕ, zero, suc, _+_, _*_, _/_, _%_, _<_, _≤_}
 use native.Mathlib.Omega.{arith}
 use lib.ListN.{length}
 use Rattle.base.specs.Bytes.{Bytes}
 use Rattle.base.specs.Said.{Said, gives, refuses}
+use Rattle.base.proofs.Readings.{undone-injective, fromSaid}
 use Rattle.chs.specs.declared.CHS.{CHS}
 use Rattle.chs.specs.declared.Placed.{Placed}
 use Rattle.chs.specs.declared.Placed.the-variants.{At, Refused}
@@ -15,24 +16,18 @@ use Rattle.chs.specs.Chs.{chs, chsBytes, chsOf, ChsOk, placed, lba}
 
 -- what an answer says determines it
 pub placed-injective : (a b : Placed) → placed a ≡ placed b → a ≡ b
-placed-injective (At c) (At d) h =
-    let e : c ≡ d = cc in
-    ap At e
-placed-injective (At c) (Refused k) h = let w : _≡_ {A = ℕ} 0 1 = cc in absurd (omega arith)
-placed-injective (Refused k) (At c) h = let w : _≡_ {A = ℕ} 0 1 = cc in absurd (omega arith)
-placed-injective (Refused k) (Refused j) h =
-    let e : k ≡ j = cc in
-    ap Refused e
+placed-injective = undone-injective placed (fromSaid At Refused) back
+  where
+    back : (a : Placed) → fromSaid At Refused (placed a) ≡ a
+    back (At n) = refl
+    back (Refused k) = refl
 
 pub lba-injective : (a b : Lba) → lba a ≡ lba b → a ≡ b
-lba-injective (LbaAt c) (LbaAt d) h =
-    let e : c ≡ d = cc in
-    ap LbaAt e
-lba-injective (LbaAt c) (LbaRefused k) h = let w : _≡_ {A = ℕ} 0 1 = cc in absurd (omega arith)
-lba-injective (LbaRefused k) (LbaAt c) h = let w : _≡_ {A = ℕ} 0 1 = cc in absurd (omega arith)
-lba-injective (LbaRefused k) (LbaRefused j) h =
-    let e : k ≡ j = cc in
-    ap LbaRefused e
+lba-injective = undone-injective lba (fromSaid LbaAt LbaRefused) back
+  where
+    back : (a : Lba) → fromSaid LbaAt LbaRefused (lba a) ≡ a
+    back (LbaAt n) = refl
+    back (LbaRefused k) = refl
 
 -- an address that three bytes can hold is read back from its bytes
 pub chs-back : (c : CHS) → ChsOk c → chsOf (chsBytes c) ≡ c

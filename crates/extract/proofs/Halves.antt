@@ -1,5 +1,5 @@
 -- One turn of the search, and what is found. Assumes nothing.
-use mathlib.Core.Path.{_≡_, refl, sym, ap}
+use mathlib.Core.Path.{_≡_, refl, sym, ap, _∙_}
 use mathlib.Core.List.{List}
 use Prim.Native.Nat.{ℕ, zero, suc, _+_, _*_, _-_, _≤_, _<_}
 use native.Mathlib.Omega.{arith}
@@ -67,14 +67,18 @@ part-record x n i e =
     let z : 24 + n * 4 + i * 512 + 512 - (24 + n * 4 + i * 512) ≡ 512 = omega arith in
     rw (z, e)
 
--- there is one answer
-pub spot-unique : (x : List ℕ) → Good x → (a : ℕ) (r q : Spot) → SpotOf x (count x) a r → SpotOf x (count x) a q → r ≡ q
-spot-unique x g a (Found i) (Found j) p q = ap Found (one (decLt i j) (decLt j i))
+-- no two records have one LBA
+pub lba-unique : (x : List ℕ) → Good x → (i j : ℕ) → i < count x → j < count x → lbaAt x i ≡ lbaAt x j → i ≡ j
+lba-unique x g i j p q e = one (decLt i j) (decLt j i)
   where
     one : Dec (i < j) → Dec (j < i) → i ≡ j
-    one (yes h) d = absurd (omega (arith, p .1, q .1, lba-less x g i j h (q .0)))
-    one (no h) (yes k) = absurd (omega (arith, p .1, q .1, lba-less x g j i k (p .0)))
+    one (yes h) d = absurd (omega (arith, lba-less x g i j h q))
+    one (no h) (yes k) = absurd (omega (arith, lba-less x g j i k p))
     one (no h) (no k) = omega arith
+
+-- there is one answer
+pub spot-unique : (x : List ℕ) → Good x → (a : ℕ) (r q : Spot) → SpotOf x (count x) a r → SpotOf x (count x) a q → r ≡ q
+spot-unique x g a (Found i) (Found j) p q = ap Found (lba-unique x g i j (p .0) (q .0) (p .1 ∙ sym (q .1)))
 spot-unique x g a (Found i) (Absent j) p q = absurd (out (decLt i j))
   where
     out : Dec (i < j) → ⊥

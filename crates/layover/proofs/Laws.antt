@@ -1,5 +1,5 @@
 -- What a lay-over makes: a good extract, of the disk with that sector stored. Assumes nothing.
-use mathlib.Core.Path.{_≡_, sym, ap, _∙_}
+use mathlib.Core.Path.{_≡_, refl, sym, ap, _∙_}
 use mathlib.Core.List.{List, _++_}
 use mathlib.Core.Bool.{true}
 use Prim.Native.Nat.{ℕ, _+_, _*_, _≤_, _<_}
@@ -12,6 +12,7 @@ use Rattle.base.specs.Pick.{pick, among}
 use Rattle.base.specs.Bytes.{Record, bytesOf, little}
 use Rattle.base.specs.Checks.{AllHold}
 use Rattle.base.proofs.Checks.{hold-both}
+use Rattle.base.proofs.Readings.{undone-injective, fromSaid}
 use Rattle.extract.specs.Disk.{Store, stored}
 use Rattle.extract.specs.Extract.{sectorSize, diskSectors, count, listOffset, recordOffset, total, lbas, records, recordIn, blank, sizeOk, ascending, allBelow, extractChecks, Good, diskOf}
 use Rattle.extract.proofs.Good.{ofHeader, ofLbas, good-long, good-offsets, good-size, good-ascending, good-below, word-below}
@@ -21,7 +22,7 @@ use Rattle.extractwrite.specs.Header.{headerBytes}
 use Rattle.layover.specs.declared.Laid.{Laid}
 use Rattle.layover.specs.declared.Laid.the-variants as laid
 use Rattle.layover.specs.Answers.{laidSaid}
-use Rattle.extract.proofs.Answers.{refusal-equal}
+use Rattle.extract.proofs.Answers.{numbered}
 use Rattle.layover.proofs.Sorted.{lbasOf, Fit, over-sector, over-union, over-again, over-ascending, over-below}
 use Rattle.layover.proofs.Parts.{word-bytes, lbas-part, records-part, length-records, length-extract, bytes-extract, header-size, header-disk, header-count, header-list, header-records, header-total, records-back, lbas-records}
 use Rattle.layover.proofs.Rules.{fit-new}
@@ -178,7 +179,8 @@ extract-again x g =
 
 -- what an answer says determines it
 pub laid-injective : (p q : Laid) → laidSaid p ≡ laidSaid q → p ≡ q
-laid-injective (laid.Length n) (laid.Length m) h = let w : n ≡ m = cc in ap laid.Length w
-laid-injective (laid.Length n) (laid.Refused r) h = let w : _≡_ {A = ℕ} 0 1 = cc in absurd (omega arith)
-laid-injective (laid.Refused r) (laid.Length n) h = let w : _≡_ {A = ℕ} 0 1 = cc in absurd (omega arith)
-laid-injective (laid.Refused r) (laid.Refused q) h = let w : r .number ≡ q .number = cc in ap laid.Refused (refusal-equal r q w)
+laid-injective = undone-injective laidSaid (fromSaid laid.Length (λ k. laid.Refused (numbered k))) back
+  where
+    back : (p : Laid) → fromSaid laid.Length (λ k. laid.Refused (numbered k)) (laidSaid p) ≡ p
+    back (laid.Length n) = refl
+    back (laid.Refused r) = refl

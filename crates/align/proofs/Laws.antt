@@ -14,6 +14,7 @@ use lib.Seq.{drop-cons}
 use borrow.Author.Tests.{eq-eqb, ne-eqb}
 use Rattle.base.specs.Pick.{pick}
 use Rattle.base.specs.Said.{Said, gives, refuses}
+use Rattle.base.proofs.Readings.{undone-injective, fromSaid}
 use Rattle.entry.specs.declared.MBRPartitionEntry.{MBRPartitionEntry}
 use Rattle.entry.specs.Entry.{used}
 use Rattle.align.specs.declared.Aligned.{Aligned}
@@ -22,14 +23,11 @@ use Rattle.align.specs.Align.{usedStarts, dividesAll, largest, lowerOf, 
 
 -- what an answer says determines it
 pub aligned-injective : (a b : Aligned) → alignedSaid a ≡ alignedSaid b → a ≡ b
-aligned-injective (Align k) (Align j) h =
-    let e : k ≡ j = cc in
-    ap Align e
-aligned-injective (Align k) (Refused j) h = let w : _≡_ {A = ℕ} 0 1 = cc in absurd (omega arith)
-aligned-injective (Refused k) (Align j) h = let w : _≡_ {A = ℕ} 0 1 = cc in absurd (omega arith)
-aligned-injective (Refused k) (Refused j) h =
-    let e : k ≡ j = cc in
-    ap Refused e
+aligned-injective = undone-injective alignedSaid (fromSaid Align Refused) back
+  where
+    back : (a : Aligned) → fromSaid Align Refused (alignedSaid a) ≡ a
+    back (Align n) = refl
+    back (Refused k) = refl
 
 -- an entry that is not used adds nothing, a used one its start
 pub starts-unused : (e : MBRPartitionEntry) → e .sys ≡ 0 → usedStarts (e ∷ []) ≡ []

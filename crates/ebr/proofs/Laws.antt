@@ -11,6 +11,7 @@ use Rattle.base.specs.Bytes.{Bytes, Record, standsAt}
 use Rattle.base.specs.Said.{Said, gives, refuses}
 use Rattle.base.specs.Checks.{first-fail, AllHold}
 use Rattle.base.proofs.Bytes.{bytes-append, bytes-zeros, bytes-take}
+use Rattle.base.proofs.Readings.{undone-injective, fromSaid}
 use Rattle.entry.specs.declared.MBRPartitionEntry.{MBRPartitionEntry}
 use Rattle.entry.specs.Entry.{entryAt, entryBytes, flagOk, EntryOk}
 use Rattle.entry.proofs.Laws.{entry-past, entry-back, entry-ok, entry-bytes}
@@ -23,14 +24,11 @@ use Rattle.ebr.specs.Ebr.{keptOf, entriesOf, ebrOf, ebrBytes, signature,
 
 -- what an answer says determines it
 pub opened-injective : (a b : Opened) → opened a ≡ opened b → a ≡ b
-opened-injective (Shut k) (Shut j) h =
-    let e : k ≡ j = cc in
-    ap Shut e
-opened-injective (Shut k) (Ebr e) h = let w : _≡_ {A = ℕ} 0 1 = cc in absurd (omega arith)
-opened-injective (Ebr e) (Shut k) h = let w : _≡_ {A = ℕ} 0 1 = cc in absurd (omega arith)
-opened-injective (Ebr e) (Ebr f) h =
-    let q : e ≡ f = cc in
-    ap Ebr q
+opened-injective = undone-injective opened (fromSaid Ebr Shut) back
+  where
+    back : (a : Opened) → fromSaid Ebr Shut (opened a) ≡ a
+    back (Shut k) = refl
+    back (Ebr e) = refl
 
 getD-past : (p q : List ℕ) (n m : ℕ) → length p ≡ n → getD (p ++ q) (n + m) 0 ≡ getD q m 0
 getD-past p q n m e = rw (← e) (getD-append-add p q m 0)

@@ -1,7 +1,6 @@
 -- What the answers determine. Assumes nothing.
-use mathlib.Core.Path.{_≡_, refl, ap}
-use Prim.Native.Nat.{ℕ}
-use native.Mathlib.Omega.{arith}
+use mathlib.Core.Path.{_≡_, refl}
+use Rattle.base.proofs.Readings.{undone-injective, fromSaid, fromOption}
 use Rattle.lookup.specs.declared.Got.{Got}
 use Rattle.lookup.specs.declared.Got.the-variants as got
 use Rattle.lookup.specs.declared.Count.{Count}
@@ -10,26 +9,16 @@ use Rattle.lookup.specs.Numbers.{gotSaid, countSaid}
 
 -- what an answer says determines it
 pub got-injective : (a b : Got) → gotSaid a ≡ gotSaid b → a ≡ b
-got-injective got.Nothing got.Nothing h = refl
-got-injective got.Nothing (got.Entry e) h = let w : _≡_ {A = ℕ} 0 1 = cc in absurd (omega arith)
-got-injective got.Nothing (got.Refused k) h = let w : _≡_ {A = ℕ} 0 1 = cc in absurd (omega arith)
-got-injective (got.Entry e) got.Nothing h = let w : _≡_ {A = ℕ} 0 1 = cc in absurd (omega arith)
-got-injective (got.Entry e) (got.Entry f) h =
-    let q : e ≡ f = cc in
-    ap got.Entry q
-got-injective (got.Entry e) (got.Refused k) h = let w : _≡_ {A = ℕ} 0 1 = cc in absurd (omega arith)
-got-injective (got.Refused k) got.Nothing h = let w : _≡_ {A = ℕ} 0 1 = cc in absurd (omega arith)
-got-injective (got.Refused k) (got.Entry e) h = let w : _≡_ {A = ℕ} 0 1 = cc in absurd (omega arith)
-got-injective (got.Refused k) (got.Refused j) h =
-    let q : k ≡ j = cc in
-    ap got.Refused q
+got-injective = undone-injective gotSaid (fromSaid (fromOption got.Entry got.Nothing) got.Refused) back
+  where
+    back : (a : Got) → fromSaid (fromOption got.Entry got.Nothing) got.Refused (gotSaid a) ≡ a
+    back got.Nothing = refl
+    back (got.Entry e) = refl
+    back (got.Refused k) = refl
 
 pub count-injective : (a b : Count) → countSaid a ≡ countSaid b → a ≡ b
-count-injective (count.Is n) (count.Is m) h =
-    let q : n ≡ m = cc in
-    ap count.Is q
-count-injective (count.Is n) (count.Refused k) h = let w : _≡_ {A = ℕ} 0 1 = cc in absurd (omega arith)
-count-injective (count.Refused k) (count.Is n) h = let w : _≡_ {A = ℕ} 0 1 = cc in absurd (omega arith)
-count-injective (count.Refused k) (count.Refused j) h =
-    let q : k ≡ j = cc in
-    ap count.Refused q
+count-injective = undone-injective countSaid (fromSaid count.Is count.Refused) back
+  where
+    back : (a : Count) → fromSaid count.Is count.Refused (countSaid a) ≡ a
+    back (count.Is n) = refl
+    back (count.Refused k) = refl

@@ -11,6 +11,7 @@ use Rattle.base.specs.Pick.{pick}
 use Rattle.base.specs.Bytes.{Record, bytesAt, standsAt}
 use Rattle.base.specs.Checks.{first-fail}
 use Rattle.base.proofs.Bytes.{byte-at, bytes-append, bytes-take, bytesAt-part, part-within, parts-join, stands-bytes}
+use Rattle.base.proofs.Readings.{undone-injective, fromOption}
 use Rattle.base.proofs.Checks.{none-fails}
 use Rattle.entry.specs.declared.MBRPartitionEntry.{MBRPartitionEntry}
 use Rattle.entry.specs.Entry.{entryAt, entryBytes, flagOk, extended}
@@ -24,23 +25,19 @@ use Rattle.mbr.specs.Mbr.{codeOf, mbrOf, mbrBytes, primaries, signature,
 
 -- what an answer says determines it
 pub found-injective : (a b : Found) → found a ≡ found b → a ≡ b
-found-injective Nothing Nothing h = refl
-found-injective Nothing (Entry e) h = let w : _≡_ {A = ℕ} 0 1 = cc in absurd (omega arith)
-found-injective (Entry e) Nothing h = let w : _≡_ {A = ℕ} 0 1 = cc in absurd (omega arith)
-found-injective (Entry e) (Entry f) h =
-    let q : e ≡ f = cc in
-    ap Entry q
+found-injective = undone-injective found (fromOption Entry Nothing) back
+  where
+    back : (a : Found) → fromOption Entry Nothing (found a) ≡ a
+    back Nothing = refl
+    back (Entry e) = refl
 
 pub protected-injective : (a b : Protection) → protected a ≡ protected b → a ≡ b
-protected-injective No No h = refl
-protected-injective No Yes h = let w : _≡_ {A = ℕ} 0 1 = cc in absurd (omega arith)
-protected-injective No Neither h = let w : _≡_ {A = ℕ} 0 1 = cc in absurd (omega arith)
-protected-injective Yes No h = let w : _≡_ {A = ℕ} 0 1 = cc in absurd (omega arith)
-protected-injective Yes Yes h = refl
-protected-injective Yes Neither h = let w : _≡_ {A = ℕ} 0 1 = cc in absurd (omega arith)
-protected-injective Neither No h = let w : _≡_ {A = ℕ} 0 1 = cc in absurd (omega arith)
-protected-injective Neither Yes h = let w : _≡_ {A = ℕ} 0 1 = cc in absurd (omega arith)
-protected-injective Neither Neither h = refl
+protected-injective = undone-injective protected (fromOption (λ b. pick b Yes No) Neither) back
+  where
+    back : (a : Protection) → fromOption (λ b. pick b Yes No) Neither (protected a) ≡ a
+    back No = refl
+    back Yes = refl
+    back Neither = refl
 
 -- the extended entry is the first such one among the entries
 pub extended-found : (es : List MBRPartitionEntry) (e : MBRPartitionEntry) → extendedOf es ≡ some e → FirstExtended es e

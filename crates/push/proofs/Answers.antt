@@ -1,7 +1,6 @@
 -- What an answer says determines it. Assumes nothing.
-use mathlib.Core.Path.{_≡_, ap}
-use Prim.Native.Nat.{ℕ}
-use native.Mathlib.Omega.{arith}
+use mathlib.Core.Path.{_≡_, refl}
+use Rattle.base.proofs.Readings.{undone-injective, fromSaid}
 use Rattle.push.specs.declared.Complete.{Complete}
 use Rattle.push.specs.declared.Complete.the-variants as complete
 use Rattle.push.specs.declared.Size.{Size}
@@ -11,31 +10,22 @@ use Rattle.push.specs.declared.PushAnswer.the-variants as push
 use Rattle.push.specs.Answers.{completeSaid, sizeSaid, pushSaid}
 
 pub complete-injective : (a b : Complete) → completeSaid a ≡ completeSaid b → a ≡ b
-complete-injective (complete.Is x) (complete.Is y) h =
-    let q : x ≡ y = cc in
-    ap complete.Is q
-complete-injective (complete.Is x) (complete.Refused k) h = let w : _≡_ {A = ℕ} 0 1 = cc in absurd (omega arith)
-complete-injective (complete.Refused k) (complete.Is y) h = let w : _≡_ {A = ℕ} 0 1 = cc in absurd (omega arith)
-complete-injective (complete.Refused k) (complete.Refused j) h =
-    let q : k ≡ j = cc in
-    ap complete.Refused q
+complete-injective = undone-injective completeSaid (fromSaid complete.Is complete.Refused) back
+  where
+    back : (a : Complete) → fromSaid complete.Is complete.Refused (completeSaid a) ≡ a
+    back (complete.Is b) = refl
+    back (complete.Refused k) = refl
 
 pub size-injective : (a b : Size) → sizeSaid a ≡ sizeSaid b → a ≡ b
-size-injective (size.Is x) (size.Is y) h =
-    let q : x ≡ y = cc in
-    ap size.Is q
-size-injective (size.Is x) (size.Refused k) h = let w : _≡_ {A = ℕ} 0 1 = cc in absurd (omega arith)
-size-injective (size.Refused k) (size.Is y) h = let w : _≡_ {A = ℕ} 0 1 = cc in absurd (omega arith)
-size-injective (size.Refused k) (size.Refused j) h =
-    let q : k ≡ j = cc in
-    ap size.Refused q
+size-injective = undone-injective sizeSaid (fromSaid size.Is size.Refused) back
+  where
+    back : (a : Size) → fromSaid size.Is size.Refused (sizeSaid a) ≡ a
+    back (size.Is n) = refl
+    back (size.Refused k) = refl
 
 pub push-injective : (a b : PushAnswer) → pushSaid a ≡ pushSaid b → a ≡ b
-push-injective (push.Number x) (push.Number y) h =
-    let q : x ≡ y = cc in
-    ap push.Number q
-push-injective (push.Number x) (push.Refused k) h = let w : _≡_ {A = ℕ} 0 1 = cc in absurd (omega arith)
-push-injective (push.Refused k) (push.Number y) h = let w : _≡_ {A = ℕ} 0 1 = cc in absurd (omega arith)
-push-injective (push.Refused k) (push.Refused j) h =
-    let q : k ≡ j = cc in
-    ap push.Refused q
+push-injective = undone-injective pushSaid (fromSaid push.Number push.Refused) back
+  where
+    back : (a : PushAnswer) → fromSaid push.Number push.Refused (pushSaid a) ≡ a
+    back (push.Number n) = refl
+    back (push.Refused k) = refl

@@ -10,6 +10,7 @@ use Rattle.base.specs.Put.{put}
 use Rattle.base.specs.Said.{gives, refuses}
 use Rattle.base.specs.Checks.{Check, checked, answer, first-fail}
 use Rattle.base.proofs.Checks.{onFail, checked-fail, checked-some, checked-none}
+use Rattle.base.proofs.Readings.{undone-injective, fromSaid}
 use Rattle.base.proofs.Put.{behind}
 use Rattle.entry.specs.declared.MBRPartitionEntry.{MBRPartitionEntry}
 use Rattle.entry.specs.Entry.{noEntry}
@@ -25,14 +26,11 @@ use Rattle.pushwrite.specs.Behind.{changedSaid, Tells, storesBehind}
 
 -- what an answer says determines it
 pub changed-injective : (a b : Changed) → changedSaid a ≡ changedSaid b → a ≡ b
-changed-injective (Stores n) (Stores m) h =
-    let q : n ≡ m = cc in
-    ap Stores q
-changed-injective (Stores n) (Refused k) h = let w : _≡_ {A = ℕ} 0 1 = cc in absurd (omega arith)
-changed-injective (Refused k) (Stores n) h = let w : _≡_ {A = ℕ} 0 1 = cc in absurd (omega arith)
-changed-injective (Refused k) (Refused j) h =
-    let q : k ≡ j = cc in
-    ap Refused q
+changed-injective = undone-injective changedSaid (fromSaid Stores Refused) back
+  where
+    back : (a : Changed) → fromSaid Stores Refused (changedSaid a) ≡ a
+    back (Stores n) = refl
+    back (Refused k) = refl
 
 -- one store, and two
 pub one-store : (d : List ℕ) (s : Store) → put d 0 (storeBytes s) ≡ put d 0 (storesBytes (s ∷ []))

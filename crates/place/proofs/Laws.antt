@@ -13,6 +13,7 @@ use lib.Seq.{drop-cons, length-take-le, getD-take}
 use borrow.Author.Tests.{lt-ltb, le-ltb, lt-leb, le-leb, leb-true, leb-false, eqb-true, eq-eqb, ne-eqb}
 use Rattle.base.specs.Pick.{pick}
 use Rattle.base.specs.Said.{Said, gives, refuses, andThen}
+use Rattle.base.proofs.Readings.{undone-injective, fromSaid, fromOption}
 use Rattle.free.specs.declared.Run.{Run}
 use Rattle.free.specs.declared.Runs.{Runs}
 use Rattle.base.specs.Said.{refusal}
@@ -37,21 +38,26 @@ use Rattle.place.specs.Place.{placeSaid, sizeSaid, spotted, roomy, first
 
 -- what an answer says determines it
 pub place-injective : (a b : Place) → placeSaid a ≡ placeSaid b → a ≡ b
-place-injective Nowhere Nowhere h = refl
-place-injective Nowhere (At q) h = let w : _≡_ {A = ℕ} 0 1 = cc in absurd (omega arith)
-place-injective Nowhere (Refused k) h = let w : _≡_ {A = ℕ} 0 1 = cc in absurd (omega arith)
-place-injective (At p) Nowhere h = let w : _≡_ {A = ℕ} 0 1 = cc in absurd (omega arith)
-place-injective (At p) (At q) h = let e : p ≡ q = cc in ap At e
-place-injective (At p) (Refused k) h = let w : _≡_ {A = ℕ} 0 1 = cc in absurd (omega arith)
-place-injective (Refused k) Nowhere h = let w : _≡_ {A = ℕ} 0 1 = cc in absurd (omega arith)
-place-injective (Refused k) (At q) h = let w : _≡_ {A = ℕ} 0 1 = cc in absurd (omega arith)
-place-injective (Refused k) (Refused j) h = let e : k ≡ j = cc in ap Refused e
+place-injective = undone-injective placeSaid (fromSaid (fromOption At Nowhere) Refused) back
+  where
+    back : (a : Place) → fromSaid (fromOption At Nowhere) Refused (placeSaid a) ≡ a
+    back Nowhere = refl
+    back (At p) = refl
+    back (Refused k) = refl
 
 pub size-injective : (a b : Size) → sizeSaid a ≡ sizeSaid b → a ≡ b
-size-injective (Sectors n) (Sectors m) h = let e : n ≡ m = cc in ap Sectors e
-size-injective (Sectors n) (NoSize k) h = let w : _≡_ {A = ℕ} 0 1 = cc in absurd (omega arith)
-size-injective (NoSize k) (Sectors n) h = let w : _≡_ {A = ℕ} 0 1 = cc in absurd (omega arith)
-size-injective (NoSize k) (NoSize j) h = let e : k ≡ j = cc in ap NoSize e
+size-injective = undone-injective sizeSaid (fromSaid Sectors NoSize) back
+  where
+    back : (a : Size) → fromSaid Sectors NoSize (sizeSaid a) ≡ a
+    back (Sectors n) = refl
+    back (NoSize k) = refl
+
+pub spot-injective : (a b : Spot) → spotted a ≡ spotted b → a ≡ b
+spot-injective = undone-injective spotted (fromOption Free Nothing) back
+  where
+    back : (a : Spot) → fromOption Free Nothing (spotted a) ≡ a
+    back Nothing = refl
+    back (Free r) = refl
 
 -- the best so far, and what each rule takes
 first-stays : (b : Run) (rs : List Run) → onward First (some b) rs ≡ some b

@@ -10,6 +10,7 @@ use borrow.Author.Tests.{le-leb, lt-leb}
 use lib.ListN.{length, getD, take, drop, set}
 use lib.Seq.{paste, paste-suc, length-paste, length-take-le}
 use Rattle.base.specs.Said.{Said, gives, refuses, refusal}
+use Rattle.base.proofs.Readings.{undone-injective, fromSaid}
 use Rattle.table.specs.declared.MBR.{MBR}
 use Rattle.free.specs.declared.Run.{Run}
 use Rattle.free.specs.declared.Runs.{Runs}
@@ -23,10 +24,11 @@ use Rattle.runs.specs.Runs.{freeFor, freeList, first, counted, Planned}
 
 -- no second answer says the same
 pub counted-injective : (a b : Counted) → counted a ≡ counted b → a ≡ b
-counted-injective (Found m) (Found n) e = let p : m ≡ n = cc in ap Found p
-counted-injective (Refused j) (Refused k) e = let p : j ≡ k = cc in ap Refused p
-counted-injective (Found m) (Refused k) e = let w : _≡_ {A = ℕ} 0 1 = cc in absurd (omega arith)
-counted-injective (Refused j) (Found n) e = let w : _≡_ {A = ℕ} 0 1 = cc in absurd (omega arith)
+counted-injective = undone-injective counted (fromSaid Found Refused) back
+  where
+    back : (a : Counted) → fromSaid Found Refused (counted a) ≡ a
+    back (Found n) = refl
+    back (Refused k) = refl
 
 -- the count of what the search says is the number of its runs
 counts : (f : FreeAnswer) (v : Said (List Run)) → Told f v → f .runs .count ≡ length (runsIn (f .runs))

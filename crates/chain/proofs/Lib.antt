@@ -2,3 +2,4 @@ pub mod View
 pub mod Rows
 pub mod Steps
 pub mod Slots
+pub mod Injective

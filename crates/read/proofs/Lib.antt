@@ -3,3 +3,4 @@ pub mod Looked
 pub mod Says
 pub mod Wants
 pub mod Collect
+pub mod Injective

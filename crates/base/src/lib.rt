@@ -1,4 +1,4 @@
-// Numbers in lent bytes, and lists laid over lists. Its functions are internal: the crates above see to what they require.
+// Numbers in lent bytes, and lists laid over lists. The crates above see to what its functions require.
 ghost use mathlib.Core.Path.{_≡_};
 ghost use Prim.Native.Nat.{_+_, _≤_, _<_};
 ghost use mathlib.Core.List.{List, [], _∷_};

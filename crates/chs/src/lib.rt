@@ -97,19 +97,19 @@ impl CHS {
         if lba == 0 {
             return Placed::Refused(7);
         }
-        let size = cylinder_size(heads, sectors);
-        if size == 0 {
+        let step = cylinder_size(heads, sectors);
+        if step == 0 {
             return Placed::Refused(7);
         }
-        let cylinder = (lba - 1) / size + 1;
-        if 1023 < cylinder {
+        let next = (lba - 1) / step + 1;
+        if 1023 < next {
             return Placed::Refused(13);
         }
-        if (cylinders as u32) < cylinder {
+        if (cylinders as u32) < next {
             return Placed::Refused(14);
         }
         Placed::At(CHS {
-            cylinder: cylinder as u16,
+            cylinder: next as u16,
             head: 0,
             sector: 1,
         })

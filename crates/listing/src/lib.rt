@@ -9,6 +9,9 @@ ghost use Rattle.base.specs.Put.{put};
 ghost use Rattle.base.specs.Checks.{checked, answer};
 ghost use Rattle.listing.specs.Listing.{tableText, listing, listed, tableChecks, listingChecks};
 
+// The bytes that a listing needs.
+pub const ROOM: usize = 2048;
+
 // A text's length, or a refusal's number.
 pub enum Listed {
     Length(usize),
@@ -36,7 +39,7 @@ pub fn list_table(t: MBR, out: &mut [u8]) -> Listed
     if LOGICALS < n {
         return Listed::Refused(6);
     }
-    if out.len() < 2048 {
+    if out.len() < ROOM {
         return Listed::Refused(19);
     }
     Listed::Length(put_table(out, t))
@@ -47,7 +50,7 @@ pub fn listing(x: &[u8], out: &mut [u8]) -> Listed
     ensures { λ r. ⌜ listed r ≡ answer (listingChecks (length (now (out .entry)))) (length (listing (now (x .entry)))) ⌝ }
     ensures { λ r. ⌜ now (out .exit) ≡ checked (listingChecks (length (now (out .entry)))) (λ _. now (out .entry)) (put (now (out .entry)) 0 (listing (now (x .entry)))) ⌝ }
 {
-    if out.len() < 2048 {
+    if out.len() < ROOM {
         return Listed::Refused(19);
     }
     let read = read::read_from(x);

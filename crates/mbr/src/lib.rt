@@ -106,21 +106,21 @@ impl MBRHeader {
     pub fn get_extended_partition(self) -> Found
         ensures { λ r. ⌜ found r ≡ extendedOf (primaries self) ⌝ }
     {
-        let one = self.partition_1;
-        if one.is_extended() {
-            return Found::Entry(one);
+        let first = self.partition_1;
+        if first.is_extended() {
+            return Found::Entry(first);
         }
-        let two = self.partition_2;
-        if two.is_extended() {
-            return Found::Entry(two);
+        let second = self.partition_2;
+        if second.is_extended() {
+            return Found::Entry(second);
         }
-        let three = self.partition_3;
-        if three.is_extended() {
-            return Found::Entry(three);
+        let third = self.partition_3;
+        if third.is_extended() {
+            return Found::Entry(third);
         }
-        let four = self.partition_4;
-        if four.is_extended() {
-            return Found::Entry(four);
+        let fourth = self.partition_4;
+        if fourth.is_extended() {
+            return Found::Entry(fourth);
         }
         Found::Nothing
     }

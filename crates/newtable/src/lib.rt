@@ -57,8 +57,8 @@ pub fn update_from(t: MBR, x: &[u8]) -> TableAnswer
         };
     }
     match extract::check(x) {
-        Header::Refused(r) => TableAnswer {
-            answer: Answer::Refused(r.number),
+        Header::Refused(why) => TableAnswer {
+            answer: Answer::Refused(why.number),
             table: t,
         },
         Header::Good(e) => {

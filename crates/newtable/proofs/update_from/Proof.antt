@@ -16,8 +16,8 @@ returns c =
 check-requires : tie.Need-check-requires
 check-requires c κs = search needs
 
-enum-known-r : tie.Need-enum-known-r
-enum-known-r c = search needs
+enum-known-why : tie.Need-enum-known-why
+enum-known-why c = search needs
 
 enum-known-e : tie.Need-enum-known-e
 enum-known-e c = search needs
@@ -26,7 +26,7 @@ returns-2 : tie.Need-returns-2
 unfolding updateSays
 returns-2 c =
     let n = le-leb _ _ (c .before .before .before .before .if1 .left) in
-    let h = sym (c .before .before .before .check .ensures .0) ∙ ap headerSaid (c .before .r .given .1) in
+    let h = sym (c .before .before .before .check .ensures .0) ∙ ap headerSaid (c .before .why .given .1) in
     (rw (n, h), rw (n, h))
 
 returns-3 : tie.Need-returns-3
@@ -38,4 +38,4 @@ returns-3 c =
 
 pub update-from-spec : {M : Type 1} → statement M
 update-from-spec =
-    tie.close (tie.spec returns check-requires enum-known-r enum-known-e returns-2 returns-3)
+    tie.close (tie.spec returns check-requires enum-known-why enum-known-e returns-2 returns-3)

@@ -15,14 +15,14 @@ cylinder-size-requires c κs = search needs
 returns-2 : tie.Need-returns-2
 returns-2 c = rw (← c .before .cylinder-size .ensures .0) (search tests)
 
-sub-cylinder : tie.Need-sub-cylinder
-sub-cylinder c = search needs
+sub-next : tie.Need-sub-next
+sub-next c = search needs
 
-div-cylinder : tie.Need-div-cylinder
-div-cylinder c = search needs
+div-next : tie.Need-div-next
+div-next c = search needs
 
-add-cylinder : tie.Need-add-cylinder
-add-cylinder c = omega (arith, quotient (c .before .before .before .args .lba - 1) (c .before .cylinder-size .result))
+add-next : tie.Need-add-next
+add-next c = omega (arith, quotient (c .before .before .before .args .lba - 1) (c .before .cylinder-size .result))
 
 returns-3 : tie.Need-returns-3
 returns-3 c = rw (← c .before .before .cylinder-size .ensures .0) (search tests)
@@ -43,9 +43,9 @@ from-lba-aligned-spec =
     returns
     cylinder-size-requires
     returns-2
-    sub-cylinder
-    div-cylinder
-    add-cylinder
+    sub-next
+    div-next
+    add-next
     returns-3
     returns-4
     cast-t10

@@ -181,7 +181,7 @@ lowest-zero (s ∷ ss) h = go s (lowest ss) (lowest-zero ss) h
     go (suc s) zero ih e = absurd (omega arith)
     go (suc s) (suc l) ih e = absurd (omega arith)
 
--- 01's own case: a single used start equal to 1 gives 1
+-- rule A3: a single used start equal to 1 gives 1
 pub single-one : alignment (1 ∷ []) ≡ gives 1
 unfolding alignment divisorTo dividesAll largest
 single-one = refl

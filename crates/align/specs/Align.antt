@@ -15,30 +15,32 @@ use Rattle.align.specs.declared.Starts.{Starts}
 use lib.ListN.{take}
 use Rattle.table.specs.Table.{defaultAlign, greatestAlign}
 
--- the starts of the used entries
+-- the starts of the used entries (rule A7)
 unfoldable pub usedStarts : List MBRPartitionEntry → List ℕ
 usedStarts [] = []
 usedStarts (e ∷ es) = pick (used (e .sys)) (e .«starting_lba» ∷ usedStarts es) (usedStarts es)
 
--- does k divide every number
+-- does k divide every number (rule A2)
 unfoldable pub dividesAll : ℕ → List ℕ → Bool
 dividesAll k [] = true
 dividesAll k (s ∷ ss) = eqb (s % k) 0 && dividesAll k ss
 
+-- the largest of them (rule A5)
 unfoldable pub largest : List ℕ → ℕ
 largest [] = 0
 largest (s ∷ ss) = max s (largest ss)
 
--- the largest number from 1 to n that divides them all
+-- the largest number from 1 to n that divides them all (rule A3)
 unfoldable pub divisorTo : ℕ → List ℕ → Option ℕ
 divisorTo zero ss = none
 divisorTo (suc n) ss = pick (dividesAll (suc n) ss) (some (suc n)) (divisorTo n ss)
 
+-- no such number: 7 (rule A6)
 abbrev pub orSeven : Option ℕ → Said ℕ
 orSeven none = refuses 7
 orSeven (some k) = gives k
 
--- a single used start equal to 1 gives 1 by the same rule; all starts zero have no number to try
+-- a single used start equal to 1 gives 1 by the same rule; all starts zero have no number to try (rule A1)
 unfoldable pub alignment : List ℕ → Said ℕ
 alignment [] = gives defaultAlign
 alignment (s ∷ ss) = orSeven (divisorTo (min greatestAlign (largest (s ∷ ss))) (s ∷ ss))

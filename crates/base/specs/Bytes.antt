@@ -54,11 +54,11 @@ abbrev pub digits : ℕ → ℕ → List ℕ
 digits zero v = []
 digits (suc n) v = v % 256 ∷ digits n (v / 256)
 
--- the number in bytes
+-- the number in bytes (rule G7)
 abbrev pub number : Order → List ℕ → ℕ
 number o bs = sum (inOrder o bs)
 
--- a number's n bytes
+-- a number's n bytes (rule G8)
 abbrev pub bytesOf : Order → ℕ → ℕ → List ℕ
 bytesOf o n v = inOrder o (digits n v)
 

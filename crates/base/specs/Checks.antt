@@ -16,12 +16,12 @@ infix 20 _!_
 abbrev pub _!_ : ℕ → Bool → Check
 n ! b = record { number = n; holds = b }
 
--- what the checks lead to: `deny` of the first one's number that fails, `grant` if all hold
+-- what the checks lead to: `deny` of the first one's number that fails, `grant` if all hold (rule G3)
 abbrev pub checked : {A : Type 0} → List Check → (ℕ → A) → A → A
 checked [] deny grant = grant
 checked (c ∷ cs) deny grant = pick (c .holds) (checked cs deny grant) (deny (c .number))
 
--- the number of the first check that fails
+-- the number of the first check that fails (rule G1)
 abbrev pub first-fail : List Check → Option ℕ
 first-fail cs = checked cs some none
 

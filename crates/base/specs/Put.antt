@@ -4,7 +4,7 @@ use mathlib.Core.List.{List, [], _∷_, _++_}
 use lib.ListN.{length, take, drop, set}
 use Rattle.base.specs.Bytes.{plus}
 
--- s with vs in the place of as many of its elements from index at on
+-- s with vs in the place of as many of its elements from index at on (rule G4)
 unfoldable pub put : List ℕ → ℕ → List ℕ → List ℕ
 put s at vs = take at s ++ vs ++ drop (at + length vs) s
 

@@ -1,4 +1,4 @@
--- What a call says: a value, or the number of a refusal of document 01. Assumes nothing.
+-- What a call says: a value, or a refusal's number. Assumes nothing.
 use Prim.Native.Nat.{ℕ}
 use mathlib.Core.Option.{Option, none, some}
 use Rattle.base.specs.declared.Answer.{Answer}
@@ -18,7 +18,7 @@ abbrev pub failure : {A : Type 0} → Said A → Option ℕ
 failure (gives a) = none
 failure (refuses k) = some k
 
--- the value, or what stands in its place
+-- the value, or what stands in its place (rule G2)
 abbrev pub valueOr : {A : Type 0} → A → Said A → A
 valueOr other (gives a) = a
 valueOr other (refuses k) = other

@@ -22,11 +22,12 @@ numberIn (some h) = some (h .number)
 abbrev pub numberOf : Said (Option Numbered) → Said (Option ℕ)
 numberOf found = andThen found (λ o. gives (numberIn o))
 
--- an extended entry is never answered: a hit of it turns to the logical partitions
+-- an extended entry is never answered: a hit of it turns to the logical partitions (rules L13 and L14)
 abbrev pub turned : MBR → ℕ → Option Numbered → Said (Option ℕ)
 turned t s none = gives none
 turned t s (some h) = pick (extended (h .entry .sys)) (numberOf (amongLogicals t s)) (gives (some (h .number)))
 
+-- 6, then the search (rule L16)
 unfoldable pub findSays : MBR → ℕ → Said (Option ℕ)
 findSays t s = checked (countCheck t ∷ []) refuses (andThen (firstAt s 1 (primaries (t .header))) (turned t s))
 

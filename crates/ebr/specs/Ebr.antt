@@ -16,26 +16,27 @@ use Rattle.ebr.specs.declared.Entries.{Entries}
 use Rattle.ebr.specs.declared.Opened.{Opened}
 use Rattle.ebr.specs.declared.Opened.the-variants.{Shut, Ebr}
 
--- what an EBR carries beside its entries: the code
+-- what an EBR carries beside its entries: the code (rule B1)
 unfoldable pub keptOf : List ℕ → Kept
 keptOf r = record { «bootstrap_code» = take 446 r }
 
--- the two entries
+-- the two entries (rules B2 and B3)
 abbrev pub entriesOf : List ℕ → Entries
 entriesOf r = record { «partition_1» = entryAt r 446; «partition_2» = entryAt r 462 }
 
+-- the EBR in a record (rule B9)
 abbrev pub ebrOf : List ℕ → EBRHeader
 ebrOf r = record { kept = keptOf r; «partition_1» = entryAt r 446; «partition_2» = entryAt r 462 }
 
--- the last two bytes
+-- the last two bytes (rule B11)
 abbrev pub signature : List ℕ
 signature = 0x55 ∷ 0xAA ∷ []
 
--- signature 3, flags of both entries 4
+-- signature 3, flags of both entries 4 (rules B4, B6 and B7)
 abbrev pub ebrChecks : List ℕ → List Check
 ebrChecks r = (3 ! standsAt r 510 signature) ∷ (4 ! flagOk (entryAt r 446)) ∷ (4 ! flagOk (entryAt r 462)) ∷ []
 
--- a lent record is 512 bytes
+-- a lent record is 512 bytes (rule B8)
 abbrev pub lentChecks : List ℕ → List Check
 lentChecks r = (1 ! eqb (length r) 512) ∷ ebrChecks r
 
@@ -43,15 +44,16 @@ lentChecks r = (1 ! eqb (length r) 512) ∷ ebrChecks r
 unfoldable pub noKept : Kept
 noKept = record { «bootstrap_code» = replicate 446 0 }
 
+-- the empty EBR (rule B14)
 abbrev pub noEbr : EBRHeader
 noEbr = record { kept = noKept; «partition_1» = noEntry; «partition_2» = noEntry }
 
--- its 512 bytes
+-- its 512 bytes (rules B5 and B10)
 unfoldable pub ebrBytes : EBRHeader → List ℕ
 ebrBytes h =
     h .kept .«bootstrap_code» ++ entryBytes (h .«partition_1») ++ entryBytes (h .«partition_2») ++ replicate 32 0 ++ signature
 
--- flags of both entries 4, lent bytes too short 19
+-- flags of both entries 4, lent bytes too short 19 (rules B12 and B13)
 abbrev pub writeChecks : EBRHeader → ℕ → List Check
 writeChecks h room = (4 ! flagOk (h .«partition_1»)) ∷ (4 ! flagOk (h .«partition_2»)) ∷ (19 ! leb 512 room) ∷ []
 

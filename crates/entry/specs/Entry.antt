@@ -10,7 +10,7 @@ use Rattle.base.specs.Bytes.{bytesAt, number, bytesOf, little}
 use Rattle.chs.specs.Chs.{chsOf, chsBytes, noChs, ChsOk}
 use Rattle.entry.specs.declared.MBRPartitionEntry.{MBRPartitionEntry}
 
--- the entry whose 16 bytes stand in s from index at on
+-- the entry whose 16 bytes stand in s from index at on (rules E1 and E2)
 abbrev pub entryAt : List ℕ → ℕ → MBRPartitionEntry
 entryAt s at =
     record {
@@ -22,34 +22,35 @@ entryAt s at =
       sectors = number little (bytesAt s (at + 12) 4);
     }
 
--- its 16 bytes
+-- its 16 bytes (rule E3)
 abbrev pub entryBytes : MBRPartitionEntry → List ℕ
 entryBytes e =
     (e .boot ∷ []) ++ chsBytes (e .«first_chs») ++ (e .sys ∷ []) ++ chsBytes (e .«last_chs») ++ bytesOf little 4 (e .«starting_lba») ++ bytesOf little 4 (e .sectors)
 
--- 16 zeros
+-- 16 zeros (rule E9)
 abbrev pub noEntry : MBRPartitionEntry
 noEntry = record { boot = 0; «first_chs» = noChs; sys = 0; «last_chs» = noChs; «starting_lba» = 0; sectors = 0 }
 
--- the flag must be 00 or 80
+-- the flag must be 00 or 80 (rule E4)
 abbrev pub flagOk : MBRPartitionEntry → Bool
 flagOk e = among (e .boot) (0 ∷ 128 ∷ [])
 
--- used: type not 0
+-- used: type not 0 (rule E5)
 abbrev pub used : ℕ → Bool
 used sys = not (eqb sys 0)
 
+-- unused: type 0 (rule E6)
 abbrev pub unused : ℕ → Bool
 unused sys = eqb sys 0
 
--- extended: type 05, 0F, 85, C5 or D5
+-- extended: type 05, 0F, 85, C5 or D5 (rule E7)
 abbrev pub extendedTypes : List ℕ
 extendedTypes = 0x05 ∷ 0x0F ∷ 0x85 ∷ 0xC5 ∷ 0xD5 ∷ []
 
 abbrev pub extended : ℕ → Bool
 extended sys = among sys extendedTypes
 
--- bootable: flag 80
+-- bootable: flag 80 (rule E8)
 abbrev pub active : MBRPartitionEntry → Bool
 active e = eqb (e .boot) 128
 

@@ -6,12 +6,12 @@ use Rattle.entry.specs.declared.MBRPartitionEntry.{MBRPartitionEntry}
 use Rattle.entry.specs.Entry.{used}
 use Rattle.text.specs.Text.{decimal, hex, spaced, newline}
 
--- number, type and flag, start, sectors
+-- number, type and flag, start, sectors (rules T6, T7 and T11)
 unfoldable pub entryLine : ℕ → MBRPartitionEntry → List ℕ
 entryLine n e =
     decimal n ++ spaced (hex (e .sys)) ++ spaced (hex (e .boot)) ++ spaced (decimal (e .«starting_lba»)) ++ spaced (decimal (e .sectors)) ++ newline
 
--- nothing for an unused entry
+-- nothing for an unused entry (rule T3)
 abbrev pub usedLine : ℕ → MBRPartitionEntry → List ℕ
 usedLine n e = pick (used (e .sys)) (entryLine n e) []
 

@@ -1,4 +1,4 @@
--- What each answer of the crate says in document 01's numbers. Assumes nothing.
+-- What each answer of the crate says: a value, or a refusal's number. Assumes nothing.
 use Prim.Native.Nat.{ℕ, _*_}
 use mathlib.Core.List.{List, [], _∷_}
 use mathlib.Core.Option.{Option, none, some}
@@ -19,7 +19,7 @@ abbrev pub headerSaid : Header → Said Extract
 headerSaid (header.Good e) = gives e
 headerSaid (header.Refused r) = refuses (r .number)
 
--- `Done` is 01's 0, no refusal; `Refused r` is the refusal of its number
+-- `Done` is 0, no refusal; `Refused r` is the refusal of its number
 abbrev pub outcomeSaid : Outcome → Option ℕ
 outcomeSaid outcome.Done = none
 outcomeSaid (outcome.Refused r) = some (r .number)
@@ -29,7 +29,7 @@ abbrev pub placeSaid : Place → Said ℕ
 placeSaid (place.At p) = gives p
 placeSaid (place.Refused r) = refuses (r .number)
 
--- the header's sector size, D and record count
+-- the header's sector size, D and record count (rule X1)
 abbrev pub headerOf : List ℕ → Extract
 headerOf x = record { «sector_size» = sectorSize x; «disk_size» = diskSectors x; count = count x }
 
@@ -37,10 +37,10 @@ headerOf x = record { «sector_size» = sectorSize x; «disk_size» = diskSector
 unfoldable pub checkSays : List ℕ → Said Extract
 checkSays x = answer (extractChecks x) (headerOf x)
 
--- what looking up says beside the record
+-- what looking up says beside the record (rule X21)
 unfoldable pub lookSays : List ℕ → ℕ → Option ℕ
 lookSays x a = first-fail (lookChecks x a)
 
--- the place of an LBA on the disk in bytes: LBA times sector size
+-- the place of an LBA on the disk in bytes: LBA times sector size (rules X23 and X24)
 unfoldable pub placeSays : ℕ → ℕ → Said ℕ
 placeSays size a = answer ((1 ! sizeOk size) ∷ []) (a * size)

@@ -20,7 +20,7 @@ pub record Store : Type 0 where
 unfoldable pub stored : Disk → Store → Disk
 stored d s = record { width = d .width; size = d .size; sector = λ a. pick (eqb a (s .lba)) (s .bytes) (d .sector a) }
 
--- the disk after stores, in their order
+-- the disk after stores, in their order (rule X22)
 unfoldable pub after : Disk → List Store → Disk
 after d [] = d
 after d (s ∷ ss) = after (stored d s) ss

@@ -33,11 +33,11 @@ recordOffset x = word x 16
 abbrev pub total : List ℕ → ℕ
 total x = word x 20
 
--- LBA number i
+-- LBA number i (rule X13)
 abbrev pub lbaAt : List ℕ → ℕ → ℕ
 lbaAt x i = word x (24 + i * 4)
 
--- record number i
+-- record number i (rule X14)
 unfoldable pub recordAt : List ℕ → ℕ → List ℕ
 recordAt x i = take 512 (drop (24 + count x * 4 + i * 512) x)
 
@@ -59,13 +59,13 @@ recordsFrom x i (suc k) = record { lba = lbaAt x i; bytes = recordAt x i } ∷ r
 abbrev pub records : List ℕ → List Store
 records x = recordsFrom x 0 (count x)
 
--- numbers that ascend strictly
+-- numbers that ascend strictly (rule X11)
 unfoldable pub ascending : List ℕ → Bool
 ascending [] = true
 ascending (a ∷ []) = true
 ascending (a ∷ b ∷ ls) = pick (ltb a b) (ascending (b ∷ ls)) false
 
--- numbers that are all below d
+-- numbers that are all below d (rule X12)
 unfoldable pub allBelow : ℕ → List ℕ → Bool
 allBelow d [] = true
 allBelow d (a ∷ ls) = pick (ltb a d) (allBelow d ls) false
@@ -77,7 +77,7 @@ lbaChecks d ls =
     (1 ! allBelow d ls) ∷
     []
 
--- the rules, in their order
+-- the rules, in their order (rule X2)
 unfoldable pub extractChecks : List ℕ → List Check
 extractChecks x =
     (1 ! leb 24 (length x)) ∷
@@ -94,7 +94,7 @@ unfoldable pub recordIn : List ℕ → List Store → ℕ → List ℕ
 recordIn other [] a = other
 recordIn other (s ∷ ss) a = pick (eqb a (s .lba)) (s .bytes) (recordIn other ss a)
 
--- the record at an LBA; empty if the extract has none
+-- the record at an LBA; empty if the extract has none (rule X16)
 abbrev pub recordOf : List ℕ → ℕ → List ℕ
 recordOf x a = recordIn [] (records x) a
 
@@ -102,14 +102,14 @@ recordOf x a = recordIn [] (records x) a
 abbrev pub blank : List ℕ
 blank = replicate 512 0
 
--- the disk that an extract stands for: a sector without a record reads as zeros
+-- the disk that an extract stands for: a sector without a record reads as zeros (rule X15)
 unfoldable pub diskOf : List ℕ → Disk
 diskOf x = record { width = sectorSize x; size = diskSectors x; sector = recordIn blank (records x) }
 
--- the refusals of a lookup, in their order
+-- the refusals of a lookup, in their order (rules X19 and X20)
 unfoldable pub lookChecks : List ℕ → ℕ → List Check
 lookChecks x a = extractChecks x ++ (2 ! ltb a (diskSectors x)) ∷ []
 
--- what a lookup answers: the record; empty if absent or refused
+-- what a lookup answers: the record; empty if absent or refused (rules X17 and X18)
 abbrev pub lookedUp : List ℕ → ℕ → List ℕ
 lookedUp x a = checked (lookChecks x a) (λ k. []) (recordOf x a)

@@ -9,7 +9,7 @@ ghost use Rattle.base.specs.Checks.{first-fail};
 ghost use Rattle.extract.specs.Spot.{SpotOf};
 ghost use Rattle.extract.specs.Answers.{headerSaid, checkSays, outcomeSaid, placeSaid, placeSays};
 
-// Why a call is refused: document 01's number.
+// Why a call is refused: the refusal's number.
 pub struct Refusal {
     pub number: u8,
 }

@@ -6,15 +6,15 @@ use lib.Dec.{eqb, leb}
 use Rattle.base.specs.Pick.{among}
 use Rattle.base.specs.Checks.{Check, _!_}
 
--- a power of two from 512 to 4,096
+-- a power of two from 512 to 4,096 (rules X3 to X5)
 abbrev pub sizeOk : ℕ → Bool
 sizeOk s = among s (512 ∷ 1024 ∷ 2048 ∷ 4096 ∷ [])
 
--- how many records an extract may have
+-- how many records an extract may have (rule X6)
 abbrev pub mostRecords : ℕ
 mostRecords = 64
 
--- the rules of the header's words, in their order, for a lent length
+-- the rules of the header's words, in their order, for a lent length (rules X7 to X10)
 abbrev pub headerChecks : ℕ → ℕ → ℕ → ℕ → ℕ → ℕ → List Check
 headerChecks long size n list records total =
     (1 ! sizeOk size) ∷

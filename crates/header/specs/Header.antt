@@ -11,10 +11,10 @@ use Rattle.extract.specs.Extract.{diskOf}
 use Rattle.extract.specs.Answers.{checkSays}
 pub use Rattle.table.specs.Table.{slots}
 
--- the MBR at sector 0: past the disk 2, signature 3, flags 4
+-- the MBR at sector 0: past the disk 2, signature 3, flags 4 (rules R2 to R4)
 unfoldable pub headerOn : Disk → Said MBRHeader
 headerOn d = answer ((2 ! ltb 0 (d .size)) ∷ headerChecks (mbrOf (d .sector 0))) (mbrOf (d .sector 0))
 
--- its header alone
+-- its header alone (rule R5)
 unfoldable pub headerSays : List ℕ → Said MBRHeader
 headerSays x = andThen (checkSays x) (λ e. headerOn (diskOf x))

@@ -19,7 +19,7 @@ use Rattle.hits.specs.declared.Numbered.{Numbered}
 use Rattle.hits.specs.declared.Hit.{Hit}
 use Rattle.hits.specs.declared.Hit.the-variants.{Nothing as NoHit, At, Refused as HitRefused}
 
--- does an entry hold a sector; its end is formed only if the entry is used and starts at or before the sector, beyond u32 7
+-- does an entry hold a sector; its end is formed only if the entry is used and starts at or before the sector, beyond u32 7 (rules L7 to L10)
 unfoldable pub holdsSays : ℕ → MBRPartitionEntry → Said Bool
 holdsSays s e =
     pick (used (e .sys))
@@ -28,12 +28,12 @@ holdsSays s e =
 abbrev pub numbered : ℕ → MBRPartitionEntry → Numbered
 numbered n e = record { number = n; entry = e }
 
--- the first of the entries, numbered from n on, that holds the sector
+-- the first of the entries, numbered from n on, that holds the sector (rule L12)
 unfoldable pub firstAt : ℕ → ℕ → List MBRPartitionEntry → Said (Option Numbered)
 firstAt s n [] = gives none
 firstAt s n (e ∷ es) = andThen (holdsSays s e) (λ b. pick b (gives (some (numbered n e))) (firstAt s (suc n) es))
 
--- the logical partitions are numbered from 5 on
+-- the logical partitions are numbered from 5 on (rule L15)
 unfoldable pub amongLogicals : MBR → ℕ → Said (Option Numbered)
 amongLogicals t s = firstAt s 5 (parts (logicals t))
 
@@ -48,7 +48,7 @@ hitSaid NoHit = gives none
 hitSaid (At h) = gives (some h)
 hitSaid (HitRefused k) = refuses k
 
--- a search that goes on: a hit or a refusal stays
+-- a search that goes on: a hit or a refusal stays (rule L11)
 abbrev pub onward : ℕ → Said (Option Numbered) → ℕ → List MBRPartitionEntry → Said (Option Numbered)
 onward s (gives none) n es = firstAt s n es
 onward s (gives (some h)) n es = gives (some h)

@@ -21,10 +21,10 @@ roomSays x a r room = answer (roomChecks x a r room) (length (newExtract x a r))
 abbrev pub roomLeaves : List ℕ → ℕ → List ℕ → List ℕ → List ℕ
 roomLeaves x a r out = checked (roomChecks x a r (length out)) (λ k. out) (put out 0 (newExtract x a r))
 
--- the new extract's length, or the first refusal
+-- the new extract's length, or the first refusal (rule O15)
 unfoldable pub laySays : List ℕ → ℕ → List ℕ → ℕ → Said ℕ
 laySays x a r room = answer (layChecks x a r room) (length (newExtract x a r))
 
--- the new extract at the start of the output, the rest of it as before; all as before if refused
+-- the new extract at the start of the output, the rest of it as before; all as before if refused (rule O16)
 unfoldable pub layLeaves : List ℕ → ℕ → List ℕ → List ℕ → List ℕ
 layLeaves x a r out = checked (layChecks x a r (length out)) (λ k. out) (put out 0 (newExtract x a r))

@@ -10,7 +10,7 @@ use Rattle.mbr.specs.declared.MBRHeader.{MBRHeader}
 use Rattle.table.specs.declared.MBR.{MBR}
 use Rattle.table.specs.Table.{withLogicals}
 
--- the table without logical partition k, counted from 0: the later ones move down by one, the slots from the old last one on stay
+-- the table without logical partition k, counted from 0: the later ones move down by one, the slots from the old last one on stay (rules D4 and D5)
 abbrev pub without : MBR → ℕ → MBR
 without t k =
     withLogicals t (paste (t .«logical_partitions») k (drop (k + 1) (t .«logical_partitions»)) (t .count - 1 - k)) (t .count - 1)
@@ -19,7 +19,7 @@ without t k =
 abbrev pub emptyAt : ℕ → ℕ → MBRPartitionEntry → MBRPartitionEntry
 emptyAt n i e = pick (eqb n i) noEntry e
 
--- the header whose entry number n is empty
+-- the header whose entry number n is empty (rule D10)
 abbrev pub emptied : MBRHeader → ℕ → MBRHeader
 emptied h n =
     record {
@@ -33,7 +33,7 @@ emptied h n =
       «boot_signature» = h .«boot_signature»;
     }
 
--- the table whose primary number n is empty; the logical partitions stay
+-- the table whose primary number n is empty; the logical partitions stay (rule D11)
 abbrev pub withoutPrimary : MBR → ℕ → MBR
 withoutPrimary t n =
     record {

@@ -13,11 +13,11 @@ use Rattle.entrylines.specs.Lines.{entryLines}
 use Rattle.listing.specs.declared.Listed.{Listed}
 use Rattle.listing.specs.declared.Listed.the-variants.{Length, Refused}
 
--- a table's listing
+-- a table's listing (rules T4 and T5)
 unfoldable pub tableText : MBR → List ℕ
 tableText t = firstLine (t .«disk_size») (t .align) (t .count) ++ entryLines 1 (primaries (t .header)) ++ entryLines 5 (parts (logicals t))
 
--- what is printed for an extract
+-- what is printed for an extract (rule T13)
 abbrev pub saidText : Said Table → List ℕ
 saidText (gives t) = tableText (tableOf t)
 saidText (refuses k) = refusedText k
@@ -34,9 +34,10 @@ listing x = saidText (readSays x)
 abbrev pub room : ℕ
 room = 2048
 
--- too many logical partitions 6, lent output too short 19
+-- too many logical partitions 6, lent output too short 19 (rule T15)
 abbrev pub tableChecks : MBR → ℕ → List Check
 tableChecks t n = (6 ! leb (t .count) most) ∷ (19 ! leb room n) ∷ []
 
+-- lent output too short 19 (rule T14)
 abbrev pub listingChecks : ℕ → List Check
 listingChecks n = (19 ! leb room n) ∷ []

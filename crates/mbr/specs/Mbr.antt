@@ -17,15 +17,15 @@ use Rattle.mbr.specs.declared.Found.the-variants.{Nothing, Entry}
 use Rattle.mbr.specs.declared.Protection.{Protection}
 use Rattle.mbr.specs.declared.Protection.the-variants.{No, Yes, Neither}
 
--- the code
+-- the code (rule M1)
 unfoldable pub codeOf : List ℕ → List ℕ
 codeOf r = take 440 r
 
--- the last two bytes
+-- the last two bytes (rule M12)
 abbrev pub signature : List ℕ
 signature = 0x55 ∷ 0xAA ∷ []
 
--- the header in a record
+-- the header in a record (rules M2 to M5)
 abbrev pub mbrOf : List ℕ → MBRHeader
 mbrOf r =
     record {
@@ -43,17 +43,17 @@ mbrOf r =
 abbrev pub primaries : MBRHeader → List MBRPartitionEntry
 primaries h = h .«partition_1» ∷ h .«partition_2» ∷ h .«partition_3» ∷ h .«partition_4» ∷ []
 
--- signature 3, flags 4
+-- signature 3, flags 4 (rules M7 and M8)
 abbrev pub headerChecks : MBRHeader → List Check
 headerChecks h =
     (3 ! standsAt (h .«boot_signature») 0 signature) ∷ (4 ! flagOk (h .«partition_1»)) ∷ (4 ! flagOk (h .«partition_2»))
     ∷ (4 ! flagOk (h .«partition_3»)) ∷ (4 ! flagOk (h .«partition_4»)) ∷ []
 
--- a lent record is 512 bytes
+-- a lent record is 512 bytes (rule M6)
 abbrev pub lentChecks : List ℕ → List Check
 lentChecks r = (1 ! eqb (length r) 512) ∷ headerChecks (mbrOf r)
 
--- a new header
+-- a new header (rule M15)
 unfoldable pub newHeader : List ℕ → MBRHeader
 newHeader disk =
     record {
@@ -67,23 +67,23 @@ newHeader disk =
       «boot_signature» = signature;
     }
 
--- what stands in the place of a header that is refused
+-- what stands in the place of a header that is refused (rule G9)
 abbrev pub noHeader : MBRHeader
 noHeader = newHeader (replicate 4 0)
 
--- its 512 bytes
+-- its 512 bytes (rule M11)
 unfoldable pub mbrBytes : MBRHeader → List ℕ
 mbrBytes h =
     h .«bootstrap_code» ++ h .«disk_signature» ++ h .«copy_protected» ++ entryBytes (h .«partition_1») ++ entryBytes (h .«partition_2»)
     ++ entryBytes (h .«partition_3») ++ entryBytes (h .«partition_4») ++ signature
 
--- signature 3, flags 4, lent bytes too short 19
+-- signature 3, flags 4, lent bytes too short 19 (rules M13 and M14)
 abbrev pub writeChecks : MBRHeader → ℕ → List Check
 writeChecks h room =
     (3 ! standsAt (h .«boot_signature») 0 signature) ∷ (4 ! flagOk (h .«partition_1»)) ∷ (4 ! flagOk (h .«partition_2»))
     ∷ (4 ! flagOk (h .«partition_3»)) ∷ (4 ! flagOk (h .«partition_4»)) ∷ (19 ! leb 512 room) ∷ []
 
--- the first extended entry counts
+-- the first extended entry counts (rule M17)
 unfoldable pub extendedOf : List MBRPartitionEntry → Option MBRPartitionEntry
 extendedOf [] = none
 extendedOf (e ∷ es) = pick (extended (e .sys)) (some e) (extendedOf es)
@@ -101,14 +101,14 @@ pub record FirstExtended (es : List MBRPartitionEntry) (e : MBRPartitionEntry) :
   pub plain : PlainAll before
   pub is-extended : extended (e .sys) ≡ true
 
--- entries are numbered from 1 to 4
+-- entries are numbered from 1 to 4 (rule M16)
 abbrev pub primaryOf : MBRHeader → ℕ → Option MBRPartitionEntry
 primaryOf h i =
     pick (eqb i 1) (some (h .«partition_1»))
     (pick (eqb i 2) (some (h .«partition_2»))
     (pick (eqb i 3) (some (h .«partition_3»)) (pick (eqb i 4) (some (h .«partition_4»)) none)))
 
--- the copy mark: 00 00 no, 5A 5A yes, else neither
+-- the copy mark: 00 00 no, 5A 5A yes, else neither (rule M9)
 abbrev pub marked : List ℕ → Option Bool
 marked m = pick (standsAt m 0 (0 ∷ 0 ∷ [])) (some false) (pick (standsAt m 0 (0x5A ∷ 0x5A ∷ [])) (some true) none)
 

@@ -67,6 +67,7 @@ pub data Field : Type 0 where
   PartitionRecord : Slot → Part → Field
   Signature : Field
 
+-- each field's place (rule M10)
 abbrev pub fieldPlace : Field → Place
 fieldPlace BootCode = place 0 424 plain
 fieldPlace UniqueMBRDiskSignature = place 440 4 plain

@@ -11,7 +11,7 @@ use Rattle.table.specs.declared.MBR.{MBR}
 use Rattle.table.specs.Table.{most, defaultAlign, emptySlot}
 use Rattle.lookup.specs.Numbers.{countCheck}
 
--- a new table: alignment 2,048, no geometry, no logical partitions
+-- a new table: alignment 2,048, no geometry, no logical partitions (rules N3 and N4)
 unfoldable pub newTable : ℕ → ℕ → List ℕ → MBR
 newTable size disk signature =
     record {
@@ -26,6 +26,7 @@ newTable size disk signature =
       «disk_size» = disk;
     }
 
+-- a new table, or 1 (rules N1 and N2)
 unfoldable pub newSays : List ℕ → List ℕ → Said MBR
 newSays x signature = andThen (checkSays x) (λ e. gives (newTable (e .«sector_size») (e .«disk_size») signature))
 
@@ -33,7 +34,7 @@ newSays x signature = andThen (checkSays x) (λ e. gives (newTable (e .«sector_
 abbrev pub noNew : List ℕ → MBR
 noNew signature = newTable 0 0 signature
 
--- the table with the sector size and D of an extract; all else as given
+-- the table with the sector size and D of an extract; all else as given (rules N7 to N9)
 abbrev pub onDisk : MBR → Extract → MBR
 onDisk t e =
     record {
@@ -48,6 +49,6 @@ onDisk t e =
       «disk_size» = e .«disk_size»;
     }
 
--- 6, then 1
+-- 6, then 1 (rules N5 and N6)
 unfoldable pub updateSays : MBR → List ℕ → Said MBR
 updateSays t x = checked (countCheck t ∷ []) refuses (andThen (checkSays x) (λ e. gives (onDisk t e)))

@@ -1,4 +1,4 @@
--- Document 01's numbers that are marked with a star: one table, a row for each. Assumes nothing.
+-- The scope document's numbers that are marked with a star: one table, a row for each. Assumes nothing.
 use Prim.Native.Nat.{ℕ}
 use mathlib.Core.Bool.{Bool, true, false, not, _&&_}
 use mathlib.Core.List.{List, [], _∷_}

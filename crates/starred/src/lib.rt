@@ -1,4 +1,4 @@
-// The numbers of document 01 that are marked with a star hold: one table, in specs/Starred.antt.
+// The scope document's numbers that are marked with a star hold: one table, in specs/Starred.antt.
 ghost use mathlib.Core.Path.{_≡_};
 ghost use Rattle.starred.specs.Starred.{rows, every};
 

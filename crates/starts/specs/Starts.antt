@@ -7,6 +7,6 @@ use Rattle.mbr.specs.Mbr.{primaries}
 use Rattle.chain.specs.Walk.{partIn}
 use Rattle.align.specs.Align.{usedStarts}
 
--- the starts of the used entries of the header and of the partitions of the first n records of these numbers
+-- the starts of the used entries of the header and of the partitions of the first n records of these numbers (rules A8 and A9)
 abbrev pub startsFound : List ℕ → MBRHeader → List ℕ → ℕ → List ℕ
 startsFound x h is n = usedStarts (primaries h ++ map (partIn x) (take n is))

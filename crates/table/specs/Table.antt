@@ -24,14 +24,15 @@ use Rattle.table.specs.declared.MaybeChs.the-variants.{Absent as NoChs, 
 use Rattle.table.specs.declared.LogicalPartition.{LogicalPartition}
 use Rattle.table.specs.declared.MBR.{MBR}
 
--- the most logical partitions of a table
+-- the most logical partitions of a table (rule G6)
 abbrev pub most : ℕ
 most = 24
 
--- default and greatest alignment
+-- the default alignment (rule A10)
 abbrev pub defaultAlign : ℕ
 defaultAlign = 2048
 
+-- the greatest alignment (rules A4 and A11)
 abbrev pub greatestAlign : ℕ
 greatestAlign = 16384
 

@@ -9,15 +9,15 @@ unfoldable pub decimalIn : ℕ → ℕ → List ℕ
 decimalIn zero n = (48 + n % 10) ∷ []
 decimalIn (suc k) n = pick (ltb n 10) ((48 + n % 10) ∷ []) (decimalIn k (n / 10) ++ ((48 + n % 10) ∷ []))
 
--- a number in decimal digits
+-- a number in decimal digits (rule T10)
 unfoldable pub decimal : ℕ → List ℕ
 decimal n = decimalIn n n
 
--- a hex digit, capital
+-- a hex digit, capital (rule T9)
 unfoldable pub hexDigit : ℕ → ℕ
 hexDigit d = pick (ltb d 10) (48 + d) (55 + d)
 
--- a byte in two hex digits
+-- a byte in two hex digits (rule T8)
 abbrev pub hex : ℕ → List ℕ
 hex b = hexDigit (b / 16) ∷ hexDigit (b % 16) ∷ []
 

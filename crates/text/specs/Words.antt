@@ -16,10 +16,10 @@ logicalWord = 32 ∷ 108 ∷ 111 ∷ 103 ∷ 105 ∷ 99 ∷ 97 ∷ 108 ∷ 32 �
 abbrev pub refusedWord : List ℕ
 refusedWord = 114 ∷ 101 ∷ 102 ∷ 117 ∷ 115 ∷ 101 ∷ 100 ∷ 32 ∷ []
 
--- D, alignment, logical count
+-- D, alignment, logical count (rules T1 and T2)
 unfoldable pub firstLine : ℕ → ℕ → ℕ → List ℕ
 firstLine disk align count = diskWord ++ decimal disk ++ alignWord ++ decimal align ++ logicalWord ++ decimal count ++ newline
 
--- a refusal prints its number only
+-- a refusal prints its number only (rule T12)
 unfoldable pub refusedText : ℕ → List ℕ
 refusedText k = refusedWord ++ decimal k ++ newline

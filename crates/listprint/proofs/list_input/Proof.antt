@@ -2,8 +2,8 @@ use lib.Seq.{length-take-le}
 use native.Mathlib.Omega.{arith}
 use mathlib.Core.Path.{sym}
 use borrow.Author.Needs.{needs}
-use Rattle.list.proofs.main.Statement.{statement}
-use Rattle.list.proofs.main.Tie as tie
+use Rattle.listprint.proofs.list_input.Statement.{statement}
+use Rattle.listprint.proofs.list_input.Tie as tie
 
 slice-aggregate-read-full : tie.Need-slice-aggregate-read-full
 slice-aggregate-read-full c = search needs
@@ -50,8 +50,8 @@ returns-2 c = search needs
 returns-3 : tie.Need-returns-3
 returns-3 c = search needs
 
-pub main-spec : {M : Type 1} → statement M
-main-spec =
+pub list-input-spec : {M : Type 1} → statement M
+list-input-spec =
     tie.close
     (tie.spec
     slice-aggregate-read-full

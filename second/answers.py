@@ -265,6 +265,10 @@ def read_header(s):
     return header_text(m.read_header_only(s.x))
 
 
+def wanted(s):
+    return none_or(m.wanted(s.x))
+
+
 # ---------------------------------------------------------------- changes of a table
 
 
@@ -493,7 +497,7 @@ COMMANDS = {f.__name__: f for f in (
     mbr_new, mbr_get, mbr_extended, mbr_copy, mbr_read, mbr_write, mbr_again,
     ebr_read, ebr_write, ebr_again,
     extract_check, extract_find, extract_place, extract_lay,
-    read, read_header,
+    read, read_header, wanted,
     get, find, remove, remove_at, check_geometry, cylinder_size, update_chs, push, push_all, new_from, update_from,
     free, first_place, last_place, best_place, most, most_for,
     free_into, update_lent, write_table, write_header, read_o, careful_push, careful_remove)}

@@ -1,4 +1,4 @@
-"""Writes the cases of reading: python3 read_cases.py > cases"""
+"""Writes the cases of reading and of what it wants: python3 read_cases.py > cases"""
 from dataclasses import replace
 
 import cases as c
@@ -13,6 +13,7 @@ near = c.Near()
 def read(x, header_too=False):
     near.lend(x)
     case("read")
+    case("wanted")
     if header_too:
         case("read_header")
 
@@ -330,6 +331,46 @@ def link_cases():
                          more=tuple(part(0x83, p, 9) for p in primaries)))
 
 
+def wanted_cases():
+    """What reading still wants: extracts that lack records."""
+    note("wanted: disk K without records, D 0 and 1")
+    on_k = m.extract_disk(disk_k()).records
+    zero, ebr = on_k[0], on_k[4096]
+    for records in ({}, {4096: ebr}, {0: zero}, {0: zero, 4095: ebr}, {0: zero, 4097: ebr, 6144: bytes(512)}):
+        read(disk(20480, records))
+        read(disk(20480, records)[:-1])
+    for disk_size in (0, 1):
+        read(disk(disk_size, {}))
+    for disk_size in (4096, 4097):
+        read(disk(disk_size, {0: zero}))
+    note("wanted: the first absent record in the chain's order, one or two of them absent")
+    for n, several in ((3, ({0}, {1}, {2}, {0, 1}, {0, 2}, {1, 2})), (24, ({1, 22}, {22}, {23})), (26, ({23, 24}, {24}, {25}))):
+        for gone in several:
+            read(chained({lba: record for lba, record in records_of(chain(n)).items() if lba not in map(lies_at, gone)}))
+    note("wanted: an absent record behind an EBR at which reading ends")
+    for n, k in ((3, 1), (3, 0)):
+        for what in ({"link": {"starting_lba": 0}}, {"link": {"starting_lba": 1}}, {"link": {"starting_lba": STEP * k}},
+                     {"link": {"boot": 1}}, {"partition": {"boot": 1}}, {"partition": {"starting_lba": BIG}},
+                     {"partition": {"starting_lba": BIG - lies_at(k)}}, {"link": {"sys": 0}}):
+            ebrs = chain(n)
+            records = records_of(ebrs)
+            put(ebrs, records, k, **what)
+            del records[lies_at(k + 1)]
+            read(chained(records))
+        records = {lba: record for lba, record in records_of(chain(n)).items() if lba < lies_at(k + 1)}
+        for disk_size in (lies_at(k + 1), lies_at(k + 1) + 1):
+            read(chained(records, disk_size=disk_size))
+    note("wanted: places below, at and beyond 2 to the 32nd")
+    for link in (BIG - X - 1, BIG - X, BIG - X + 1, BIG):
+        read(chained({X: m.ebr_bytes(changed(chain(2)[0], link={"starting_lba": link}))}, disk_size=BIG))
+    note("wanted: X 0, where record 0 is the first EBR")
+    for place in (1, 40, BIG):
+        read(disk(D, {0: m.header_bytes(header_of(replace(EXTENDED, starting_lba=0), part(0x83, place, 9)))}))
+    note("wanted: a header that is refused, or has no extended entry")
+    for at, text in ((510, "0000"), (446, "01"), (450, "83"), (450, "00")):
+        read(disk(20480, {0: damaged(zero, at, text)}))
+
+
 def seeded_cases():
     note("reading: seeded chains")
     rng = c.Seeded(707)
@@ -362,6 +403,6 @@ def seeded_cases():
 
 if __name__ == "__main__":
     for section in (header_cases, alignment_cases, extended_cases, first_cases, later_cases, last_cases, link_cases,
-                    seeded_cases):
+                    wanted_cases, seeded_cases):
         section()
     print("\n".join(c.lines))

@@ -84,6 +84,7 @@ impl Archive {
         match word {
             "read" => Some(read(x).map_or_else(|k| format!("refused {k}"), |t| text::table(&t))),
             "read_header" => self.read_header(),
+            "wanted" => number(unsafe { cv_wanted(x.as_ptr(), x.len()) }),
             "new_from" => self.new_from(w),
             "read_o" if self.stale => None,
             "read_o" => {

@@ -74,6 +74,7 @@ impl Crate {
                 let mut disk = Disk::new(Extract::of(&self.given.x)?);
                 said(run(Operation::Read, || MBRHeader::read_from(&mut disk)).map(|h| text::header(&h)))
             }
+            "wanted" => Some(self.wanted(&self.given.x.clone())?.map_or("none".to_string(), |lba| lba.to_string())),
             "new_from" => {
                 let mut disk = Disk::new(Extract::of(&self.given.x)?);
                 let size = disk.extract.sector_size;
@@ -159,7 +160,6 @@ impl Crate {
 
     /// The first sector that the crate seeks in reading and that is on the disk and has no record; of a chain as long as
     /// document 01 lets it be.
-    #[cfg(feature = "archive")]
     pub fn wanted(&mut self, x: &[u8]) -> Option<Option<u32>> {
         let mut disk = Disk::new(Extract::of(x)?);
         let size = disk.extract.sector_size;

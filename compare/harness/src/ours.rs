@@ -17,7 +17,7 @@ const PROGRAMS: [&str; 6] = ["numbers", "numbers4", "numbers5", "numbers6", "num
 /// The program that has a command.
 fn owner(word: &str) -> Option<usize> {
     match word {
-        "read" | "read_header" => Some(1),
+        "read" | "read_header" | "wanted" => Some(1),
         _ if ["chs_", "entry_", "mbr_", "ebr_", "extract_"].iter().any(|p| word.starts_with(p)) => Some(0),
         _ if NUMBERS5.contains(&word) => Some(2),
         _ if NUMBERS6.contains(&word) => Some(3),

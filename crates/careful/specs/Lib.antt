@@ -3,4 +3,3 @@ pub mod Careful
 pub mod Output
 pub mod Demand3
 pub mod Laid
-pub mod DiskK

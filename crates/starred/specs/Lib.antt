@@ -1,1 +1,2 @@
+pub mod Disks
 pub mod Starred

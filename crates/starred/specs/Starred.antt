@@ -6,20 +6,12 @@ use lib.Dec.{eqb}
 use Rattle.align.specs.Align.{alignment}
 use Rattle.base.specs.Said.{Said, gives, refuses}
 use Rattle.chs.specs.declared.CHS.{CHS}
-use Rattle.chs.specs.Chs.{chs, chsBytes, exact, aligned, isValid, noChs}
+use Rattle.chs.specs.Chs.{chs, chsBytes, exact, aligned, isValid}
 use mathlib.Core.Option.{Option, none, some}
-use lib.ListN.{length, replicate}
-use Rattle.entry.specs.declared.MBRPartitionEntry.{MBRPartitionEntry}
-use Rattle.entry.specs.Entry.{noEntry}
-use Rattle.mbr.specs.Mbr.{noHeader}
-use Rattle.table.specs.declared.LogicalPartition.{LogicalPartition}
-use Rattle.table.specs.declared.MaybeSectors.the-variants.{Absent}
-use Rattle.table.specs.declared.MaybeChs.the-variants.{Absent as NoChs}
-use Rattle.table.specs.declared.MBR.{MBR}
 use Rattle.free.specs.declared.Run.{Run}
 use Rattle.free.specs.Free.{free}
 use Rattle.place.specs.Place.{firstPlace, lastPlace}
-use Rattle.careful.specs.DiskK.{entry, onK}
+use Rattle.starred.specs.Disks.{plainDisk, K, asked, pushedOnK}
 
 -- equal lists
 abbrev pub same : List ℕ → List ℕ → Bool
@@ -41,49 +33,6 @@ at (refuses k) d = false
 abbrev pub no : {A : Type 0} → Said A → ℕ → Bool
 no (gives a) k = false
 no (refuses j) k = eqb j k
-
--- a logical partition with its EBR's place
-abbrev pub logical : ℕ → MBRPartitionEntry → LogicalPartition
-logical place e =
-    record {
-      partition = e;
-      «absolute_ebr_lba» = record { 0 = place };
-      «ebr_sectors» = Absent;
-      «ebr_first_chs» = noChs;
-      «ebr_last_chs» = NoChs;
-      kept = record { «bootstrap_code» = replicate 446 0 };
-    }
-
--- a table at alignment 2,048: disk sectors, the first primary entry, the logical partitions
-abbrev pub table : ℕ → MBRPartitionEntry → List LogicalPartition → MBR
-table disk e ls =
-    record {
-      «sector_size» = 512;
-      header =
-          record {
-            «bootstrap_code» = noHeader .«bootstrap_code»;
-            «disk_signature» = noHeader .«disk_signature»;
-            «copy_protected» = noHeader .«copy_protected»;
-            «partition_1» = e;
-            «partition_2» = noEntry;
-            «partition_3» = noEntry;
-            «partition_4» = noEntry;
-            «boot_signature» = noHeader .«boot_signature»;
-          };
-      «logical_partitions» = ls;
-      count = length ls;
-      align = 2048;
-      cylinders = 0;
-      heads = 0;
-      sectors = 0;
-      «disk_size» = disk;
-    }
-
-abbrev pub diskK : MBR
-diskK = table 20480 (entry 0x05 4096 16384) (logical 4096 (entry 0x83 6144 2048) ∷ [])
-
-abbrev pub disk10000 : MBR
-disk10000 = table 10000 (entry 0x83 2048 2048) []
 
 -- the runs are given: start and length of each
 abbrev pub flat : List Run → List ℕ
@@ -124,13 +73,15 @@ rows =
     -- alignment
     ∷ number (alignment (63 ∷ [])) 63
     ∷ number (alignment (32768 ∷ [])) 16384
-    -- free runs and places
-    ∷ runs (free disk10000) (4096 ∷ 5904 ∷ [])
-    ∷ placed (lastPlace disk10000 1000) (8192 ∷ [])
-    ∷ placed (firstPlace disk10000 5905) []
-    ∷ runs (free diskK) (2048 ∷ 2048 ∷ 6144 ∷ 4096 ∷ 12288 ∷ 8192 ∷ [])
-    -- careful push on K: not refused, stores at 8,192, then 4,096
-    ∷ same (onK 8192 4096) (0 ∷ 8192 ∷ 4096 ∷ [])
+    ∷ number (alignment (0 ∷ 63 ∷ [])) 63
+    ∷ no (alignment (0 ∷ [])) 7
+    -- D 10,000: free runs and places
+    ∷ runs (asked plainDisk free) (4096 ∷ 5904 ∷ [])
+    ∷ placed (asked plainDisk (λ t. lastPlace t 1000)) (8192 ∷ [])
+    ∷ placed (asked plainDisk (λ t. firstPlace t 5905)) []
+    -- K: free runs; a careful push that is not refused and stores at 8,192, then 4,096
+    ∷ runs (asked K free) (2048 ∷ 2048 ∷ 6144 ∷ 4096 ∷ 12288 ∷ 8192 ∷ [])
+    ∷ same (pushedOnK 8192 4096) (0 ∷ 8192 ∷ 4096 ∷ [])
     ∷ []
 
 -- every row holds

@@ -1,22 +1,25 @@
 -- The plan from what the search says, and the list after so many stores. Assumes nothing.
 use mathlib.Core.Path.{_≡_, refl, sym, ap, _∙_}
 use mathlib.Core.Option.{none, some}
-use mathlib.Core.List.{List, _++_}
+use mathlib.Core.Bool.{Bool, true, false}
+use mathlib.Core.List.{List, [], _∷_, _++_}
 use Prim.Native.Nat.{ℕ, suc, _+_, _≤_, _<_}
 use native.Mathlib.Nat.{zero-add, le-trans}
 use native.Mathlib.Numerals.{add-one}
 use native.Mathlib.Omega.{arith}
 use borrow.Author.Tests.{le-leb, lt-leb}
+use lib.Dec.{leb}
 use lib.ListN.{length, getD, take, drop, set}
 use lib.Seq.{paste, paste-suc, length-paste, length-take-le}
-use Rattle.base.specs.Said.{Said, gives, refuses, refusal}
+use Rattle.base.specs.Said.{Said, gives, refuses, refusal, andThen, valueOr}
+use Rattle.base.specs.Checks.{_!_, answer}
 use Rattle.base.proofs.Readings.{undone-injective, fromSaid}
 use Rattle.table.specs.declared.MBR.{MBR}
 use Rattle.free.specs.declared.Run.{Run}
 use Rattle.free.specs.declared.Runs.{Runs}
 use Rattle.free.specs.declared.FreeAnswer.{FreeAnswer}
 use Rattle.free.specs.Free.{free, listed, runsIn, Told, mostRuns}
-use Rattle.free.proofs.Laws.{said-told, told-listed}
+use Rattle.free.proofs.Laws.{runs-listed, said-told, told-listed}
 use Rattle.runs.specs.declared.Plan.{Plan}
 use Rattle.runs.specs.declared.Counted.{Counted}
 use Rattle.runs.specs.declared.Counted.the-variants.{Found, Refused}
@@ -36,9 +39,13 @@ unfolding listed
 counts f v told = ap (λ (x : Runs). x .count) (told-listed f v told)
 
 module _ (t : MBR) (n : ℕ) where
+  -- a refusal that stores nothing and hands on these runs
+  abbrev Refusing : ℕ → List Run → Plan → Type 0
+  Refusing k rs r = (counted (r .answer) ≡ refuses k) × (r .stores ≡ 0) × (r .runs ≡ rs)
+
   -- nothing is stored: the search refuses, or fewer than thirty are lent
-  planned-none : (k : ℕ) (r : Plan) → freeFor t n ≡ refuses k → counted (r .answer) ≡ refuses k → r .stores ≡ 0 → Planned t n r
-  planned-none k r e a s = rw (e, a, s) (refl, (refl, (omega arith, omega arith)))
+  planned-none : (k : ℕ) (r : Plan) → freeFor t n ≡ refuses k → Refusing k (listed (valueOr [] (free t)) .at) r → Planned t n r
+  planned-none k r e w = rw (e, w .0, w .1) (refl, refl, w .2, omega arith, omega arith)
 
   -- what a list of n is told where the search refuses, where it is too short, and where it has room
   for-refused : (k : ℕ) → free t ≡ refuses k → freeFor t n ≡ refuses k
@@ -55,17 +62,39 @@ module _ (t : MBR) (n : ℕ) where
 
   -- what the search answered
   module _ (f : FreeAnswer) (told : Told f (free t)) where
-    pub planned-refused : (k : ℕ) (r : Plan) → refusal (f .answer) ≡ some k → counted (r .answer) ≡ refuses k → r .stores ≡ 0 → Planned t n r
-    planned-refused k r e = planned-none k r (for-refused k (sym (said-told f (free t) told) ∙ rw e))
+    -- the runs that it handed on
+    at-told : f .runs .at ≡ listed (valueOr [] (free t)) .at
+    at-told = ap (λ (x : Runs). x .at) (told .1)
+
+    pub planned-refused : (k : ℕ) (r : Plan) → refusal (f .answer) ≡ some k → Refusing k (f .runs .at) r → Planned t n r
+    planned-refused k r e w = planned-none k r (for-refused k (sym (said-told f (free t) told) ∙ rw e)) (w .0, w .1, w .2 ∙ at-told)
 
     gave : refusal (f .answer) ≡ none → free t ≡ gives (runsIn (f .runs))
     gave e = sym (said-told f (free t) told) ∙ rw e
 
-    pub planned-short : (r : Plan) → refusal (f .answer) ≡ none → n < mostRuns → counted (r .answer) ≡ refuses 19 → r .stores ≡ 0 → Planned t n r
-    planned-short r e h = planned-none 19 r (for-short (runsIn (f .runs)) (gave e) h)
+    pub planned-short : (r : Plan) → refusal (f .answer) ≡ none → n < mostRuns → Refusing 19 (f .runs .at) r → Planned t n r
+    planned-short r e h w = planned-none 19 r (for-short (runsIn (f .runs)) (gave e) h) (w .0, w .1, w .2 ∙ at-told)
 
     pub planned-found : f .runs .count ≤ mostRuns → refusal (f .answer) ≡ none → mostRuns ≤ n → Planned t n record { answer = Found (f .runs .count); stores = f .runs .count; runs = f .runs .at }
-    planned-found few e h = rw (for-found (runsIn (f .runs)) (gave e) h) (ap gives (counts f (free t) told), (refl, (few, le-trans few h)))
+    planned-found few e h = rw (for-found (runsIn (f .runs)) (gave e) h) (ap gives (counts f (free t) told), counts f (free t) told, at-told, few, le-trans few h)
+
+  -- the runs to be stored are those for the list
+  pub planned-stores : (r : Plan) → Planned t n r → take (r .stores) (r .runs) ≡ valueOr [] (freeFor t n)
+  unfolding freeFor listed
+  planned-stores r p = rw (p .1, p .2) (go (free t) (leb mostRuns n))
+    where
+      go : (v : Said (List Run)) (b : Bool)
+          → (let w = valueOr [] (andThen v (λ rs. answer ((19 ! b) ∷ []) rs)) in take (length w) (listed (valueOr [] v) .at) ≡ w)
+      go (refuses k) b = refl
+      go (gives rs) true = runs-listed rs
+      go (gives rs) false = refl
+
+  -- no second plan is one
+  pub planned-one : (r s : Plan) → Planned t n r → Planned t n s → r ≡ s
+  planned-one r s p q =
+      ap (λ (a : Counted). record { answer = a; stores = r .stores; runs = r .runs }) (counted-injective (r .answer) (s .answer) (p .0 ∙ sym (q .0)))
+      ∙ ap (λ (k : ℕ). record { answer = s .answer; stores = k; runs = r .runs }) (p .1 ∙ sym (q .1))
+      ∙ ap (λ (l : List Run). record { answer = s .answer; stores = s .stores; runs = l }) (p .2 ∙ sym (q .2))
 
 -- a list of which the first i are replaced by those of another
 unfoldable pub laid : List Run → List Run → ℕ → List Run

@@ -3,12 +3,12 @@ use Prim.Native.Nat.{ℕ, _≤_}
 use mathlib.Core.Path.{_≡_}
 use mathlib.Core.List.{List, [], _∷_, _++_}
 use lib.Dec.{leb}
-use lib.ListN.{length, take, drop}
+use lib.ListN.{length, drop}
 use Rattle.base.specs.Said.{Said, gives, refuses, andThen, valueOr}
 use Rattle.base.specs.Checks.{_!_, answer}
 use Rattle.table.specs.declared.MBR.{MBR}
 use Rattle.free.specs.declared.Run.{Run}
-use Rattle.free.specs.Free.{free, mostRuns}
+use Rattle.free.specs.Free.{free, listed, mostRuns}
 use Rattle.runs.specs.declared.Plan.{Plan}
 use Rattle.runs.specs.declared.Counted.{Counted}
 use Rattle.runs.specs.declared.Counted.the-variants.{Found, Refused}
@@ -34,8 +34,11 @@ abbrev pub counted : Counted → Said ℕ
 counted (Found n) = gives n
 counted (Refused k) = refuses k
 
--- what a plan for a list of n says: the answer, the runs to store, and that the list has room for them
+-- the plan for a list of n, whole: the answer; how many runs are to be stored, for which the list has room; and the runs that the search found, with every slot behind them
 abbrev pub Planned : MBR → ℕ → Plan → Type 0
 Planned t n r =
     (counted (r .answer) ≡ freeCount t n)
-    × ((take (r .stores) (r .runs) ≡ valueOr [] (freeFor t n)) × ((r .stores ≤ mostRuns) × (r .stores ≤ n)))
+    × (r .stores ≡ length (valueOr [] (freeFor t n)))
+    × (r .runs ≡ listed (valueOr [] (free t)) .at)
+    × (r .stores ≤ mostRuns)
+    × (r .stores ≤ n)

@@ -25,7 +25,7 @@ pub struct Plan {
 
 // Nothing is stored.
 fn refused(k: u8, runs: [Run; RUNS]) -> Plan
-    ensures { λ r. ⌜ (counted (r .answer) ≡ refuses k) × (r .stores ≡ 0) ⌝ }
+    ensures { λ r. ⌜ (counted (r .answer) ≡ refuses k) × (r .stores ≡ 0) × (r .runs ≡ runs) ⌝ }
 {
     Plan {
         answer: Counted::Refused(k),

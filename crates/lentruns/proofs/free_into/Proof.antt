@@ -56,7 +56,7 @@ use Rattle.free.specs.declared.Run.{Run}
 use Rattle.table.specs.declared.MBR.{MBR}
 use Rattle.runs.specs.declared.Plan.{Plan}
 use Rattle.runs.specs.declared.Counted.{Counted}
-use Rattle.runs.proofs.Laws.{laid, laid-zero, laid-suc, length-laid, laid-all}
+use Rattle.runs.proofs.Laws.{laid, laid-zero, laid-suc, length-laid, laid-all, planned-stores}
 use Rattle.free.proofs.Run as R
 use Rattle.free.proofs.Run.Laws as R′
 use Rattle.table.proofs.MBR as G
@@ -206,13 +206,13 @@ module _ {M : Type 1} (𝓤 : URA M) (H : Heap 𝓤) (A : Atoms 𝓤) (W : Given
     zs i = laid (r .runs) ys i
 
     k-fits : (k ≤ mostRuns) × (k ≤ n)
-    k-fits = (e .1 .1 .0, e .1 .1 .1)
+    k-fits = (e .3, e .4)
 
     long : (i : ℕ) → i ≤ k → length (zs i) ≡ n
     long i h = length-laid (r .runs) ys i (le-trans h (k-fits .1)) (subst (λ (m : ℕ). i ≤ m) (sym (as-many r is)) (le-trans h (k-fits .0)))
 
     last : zs k ≡ freeList t ys
-    last = laid-all (r .runs) ys (valueOr [] (freeFor t n)) k (subst (λ (m : ℕ). k ≤ m) (sym (as-many r is)) (k-fits .0)) (e .1 .0)
+    last = laid-all (r .runs) ys (valueOr [] (freeFor t n)) k (subst (λ (m : ℕ). k ≤ m) (sym (as-many r is)) (k-fits .0)) (planned-stores t n r e)
 
     abbrev to-run-of : ℕ → RunOf 𝓤 H A at-mem run .Ghost
     to-run-of i = ((tt, tt, tt, (r, (i, tt)), (valsP r, (vint w64 i ∷ [], tt))), tt)

@@ -23,12 +23,12 @@ refused-requires-2 c κs = search needs
 returns : tie.Need-returns
 returns c =
     let s = c .before .before .before .before .before .before in
-    planned-short (s .before .args .t) (s .before .args .n) (s .find-free-sectors .result) (s .find-free-sectors .ensures .0) (c .refused2 .result) (ap refusal (c .before .before .enum-told .given .1)) (c .before .if1 .taken) (c .refused2 .ensures .0) (c .refused2 .ensures .1)
+    planned-short (s .before .args .t) (s .before .args .n) (s .find-free-sectors .result) (s .find-free-sectors .ensures .0) (c .refused2 .result) (ap refusal (c .before .before .enum-told .given .1)) (c .before .if1 .taken) (c .refused2 .ensures)
 
 returns-2 : tie.Need-returns-2
 returns-2 c =
     let s = c .before .before .before .before .before .before in
-    planned-refused (s .before .args .t) (s .before .args .n) (s .find-free-sectors .result) (s .find-free-sectors .ensures .0) (c .before .before .a .given .0 .0) (c .refused .result) (ap refusal (c .before .before .a .given .1)) (c .refused .ensures .0) (c .refused .ensures .1)
+    planned-refused (s .before .args .t) (s .before .args .n) (s .find-free-sectors .result) (s .find-free-sectors .ensures .0) (c .before .before .a .given .0 .0) (c .refused .result) (ap refusal (c .before .before .a .given .1)) (c .refused .ensures)
 
 returns-3 : tie.Need-returns-3
 returns-3 c =

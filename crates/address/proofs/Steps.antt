@@ -1,7 +1,7 @@
 -- Steps of update_chs. Assumes nothing.
 use mathlib.Core.Path.{_≡_, refl, ap, sym, _∙_}
 use mathlib.Core.Bool.{Bool, true, false}
-use mathlib.Core.Option.{none, some}
+use mathlib.Core.Option.{some}
 use mathlib.Core.List.{List, [], _∷_}
 use Prim.Native.Nat.{ℕ, _+_, _-_}
 use native.Mathlib.Omega.{arith}
@@ -11,7 +11,6 @@ use borrow.Author.Tests.{lt-ltb, le-ltb}
 use Rattle.base.specs.Pick.{pick}
 use Rattle.base.specs.Said.{Said, gives, refuses, andThen, failure, valueOr}
 use Rattle.base.specs.Checks.{Check, checked, answer, first-fail}
-use Rattle.base.proofs.Checks.{checked-none}
 use Rattle.chs.specs.declared.CHS.{CHS}
 use Rattle.chs.specs.Chs.{exact}
 use Rattle.table.specs.declared.MaybeChs.{MaybeChs}
@@ -93,6 +92,14 @@ update-failure g l = failed (updateChecks g l) (addressed g l)
         go true ih = ih
         go false ih = refl
 
-pub update-gives : (g : Geometry) (l : LogicalPartition) → first-fail (updateChecks g l) ≡ none → valueOr l (updateChs g l) ≡ addressed g l
+pub update-value : (g : Geometry) (l : LogicalPartition) → valueOr l (updateChs g l) ≡ checked (updateChecks g l) (λ _. l) (addressed g l)
 unfolding updateChs
-update-gives g l h = ap (valueOr l) (checked-none (updateChecks g l) refuses (gives (addressed g l)) h)
+update-value g l = valued (updateChecks g l) l (addressed g l)
+  where
+    valued : {A : Type 0} (cs : List Check) (o a : A) → valueOr o (answer cs a) ≡ checked cs (λ _. o) a
+    valued [] o a = refl
+    valued (c ∷ cs) o a = go (c .holds) (valued cs o a)
+      where
+        go : (b : Bool) → valueOr o (answer cs a) ≡ checked cs (λ _. o) a → valueOr o (pick b (answer cs a) (refuses (c .number))) ≡ pick b (checked cs (λ _. o) a) o
+        go true ih = ih
+        go false ih = refl

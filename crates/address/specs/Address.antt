@@ -3,6 +3,7 @@ use Prim.Native.Nat.{ℕ, _+_, _*_, _-_, _/_, _^_}
 use mathlib.Core.List.{List, [], _∷_, _++_}
 use mathlib.Core.Bool.{Bool, not, _&&_}
 use lib.Dec.{ltb, leb, eqb}
+use Rattle.base.specs.Pick.{pick}
 use Rattle.base.specs.Said.{Said}
 use Rattle.base.specs.Checks.{Check, _!_, answer}
 use Rattle.chs.specs.declared.CHS.{CHS}
@@ -78,3 +79,10 @@ addressed g l =
 -- update_chs
 unfoldable pub updateChs : Geometry → LogicalPartition → Said LogicalPartition
 updateChs g l = answer (updateChecks g l) (addressed g l)
+
+-- where the geometry is complete: the refusals of the four addresses, and the partition with them; else none, and as it is
+abbrev pub slotGeometry : Geometry → LogicalPartition → List Check
+slotGeometry g l = pick (complete g) (updateChecks g l) []
+
+abbrev pub byGeometry : Geometry → LogicalPartition → LogicalPartition
+byGeometry g l = pick (complete g) (addressed g l) l

@@ -7,13 +7,11 @@ use chs::CHS;
 use chs::Placed;
 use table::LogicalPartition;
 ghost use mathlib.Core.Path.{_≡_};
-ghost use mathlib.Core.Option.{none, some};
-ghost use mathlib.Core.List.{[]};
-ghost use Rattle.base.specs.Pick.{pick};
+ghost use mathlib.Core.Option.{some};
 ghost use Rattle.base.specs.Said.{refusal, failure, valueOr};
-ghost use Rattle.base.specs.Checks.{first-fail};
+ghost use Rattle.base.specs.Checks.{first-fail, checked};
 ghost use Rattle.chs.specs.Chs.{placed};
-ghost use Rattle.address.specs.Address.{complete, updateChecks, addressed, updateChs};
+ghost use Rattle.address.specs.Address.{updateChs, slotGeometry, byGeometry};
 ghost use Rattle.address.specs.Answers.{geometryIn, linkedSaid, settled};
 
 pub fn as_given(l: LogicalPartition, k: u8) -> Updated
@@ -76,10 +74,10 @@ pub fn update_chs(l: LogicalPartition, cylinders: u16, heads: u8, sectors: u8) -
     update(g, l)
 }
 
-// The partition with its addresses, if the geometry is complete.
+// The partition with its addresses, if the geometry is complete; as given beside a refusal.
 pub fn with_geometry(g: Geometry, l: LogicalPartition) -> Updated
-    ensures { λ r. ⌜ refusal (r .answer) ≡ first-fail (pick (complete g) (updateChecks g l) []) ⌝ }
-    ensures { λ r. ⌜ (refusal (r .answer) ≡ none → r .logical ≡ pick (complete g) (addressed g l) l) ⌝ }
+    ensures { λ r. ⌜ refusal (r .answer) ≡ first-fail (slotGeometry g l) ⌝ }
+    ensures { λ r. ⌜ r .logical ≡ checked (slotGeometry g l) (λ _. l) (byGeometry g l) ⌝ }
 {
     if !address::is_complete(g) {
         return Updated {

@@ -1,19 +1,21 @@
 -- The steps of push and update_chs, as the code takes them. Assumes nothing.
 use mathlib.Core.Path.{_≡_, ap, sym, _∙_}
 use mathlib.Core.Bool.{true, false}
-use mathlib.Core.Option.{Option, none, some}
+use mathlib.Core.Option.{none, some}
 use mathlib.Core.List.{List, [], _∷_, _++_, append-assoc}
 use Prim.Native.Nat.{ℕ, _+_, _*_, _≤_, _<_, _^_}
 use native.Mathlib.Omega.{arith}
 use lib.Dec.{ltb}
 use lib.ListN.{set}
 use borrow.Author.Tests.{ltb-true, leb-true, lt-ltb, le-ltb, le-leb}
-use Rattle.base.specs.Said.{gives, refuses}
-use Rattle.base.specs.Checks.{Check, _!_, answer, first-fail}
-use Rattle.base.proofs.Checks.{append-fails, append-holds, none-fails, checked-some, checked-none, answer-gives}
+use Rattle.base.specs.Said.{gives, refuses, refusal}
+use Rattle.base.specs.Checks.{Check, _!_, checked, answer, first-fail}
+use Rattle.base.proofs.Checks.{onFail, append-fails, append-holds, none-fails, hold-right, checked-fail, checked-some, checked-none, answer-gives}
 use Rattle.entry.specs.declared.MBRPartitionEntry.{MBRPartitionEntry}
 use Rattle.table.specs.declared.MBR.{MBR}
-use Rattle.table.specs.Table.{most, extendedIn, withLogicals}
+use Rattle.table.specs.declared.LogicalPartition.{LogicalPartition}
+use Rattle.table.specs.Table.{most, emptySlot, extendedIn, withLogicals}
+use Rattle.address.specs.declared.Updated.{Updated}
 use Rattle.request.specs.declared.Place.{Place}
 use Rattle.push.specs.Push.{Request, geometryChecks, pushChecks, tableChecks, newLogical, requestOf, pushSays, pushTable, pushedTo}
 use Rattle.request.specs.Asked.{placeOf, sizeOf, roundChecks, placeChecks, endChecks, laterThan}
@@ -27,6 +29,18 @@ fail-left cs ds k e = append-fails cs ds k some none e
 pub fail-right : (cs ds : List Check) → first-fail cs ≡ none → first-fail (cs ++ ds) ≡ first-fail ds
 fail-right cs ds e = append-holds cs ds some none (none-fails cs e)
 
+-- an answer that has the partition if all checks hold, and an empty one beside the first refusal
+abbrev pub Made : List Check → LogicalPartition → Updated → Type 0
+Made cs new r = (refusal (r .answer) ≡ first-fail cs) × (r .logical ≡ checked cs (λ _. emptySlot) new)
+
+-- one that is this refusal
+abbrev pub Refuses : ℕ → Updated → Type 0
+Refuses k r = (refusal (r .answer) ≡ some k) × (r .logical ≡ emptySlot)
+
+made-refused : (cs : List Check) (new : LogicalPartition) (r : Updated) (k : ℕ) → first-fail cs ≡ some k → Refuses k r → Made cs new r
+made-refused cs new r k f w = (w .0 ∙ sym f, w .1 ∙ sym (checked-some cs (λ _. emptySlot) new k f))
+
+-- push's refusals for an extended entry and n partitions, and the new partition
 module _ (q : Request) (e : MBRPartitionEntry) (n : ℕ) where
   abbrev R : List Check
   R = (8 ! true) ∷ roundChecks q
@@ -63,6 +77,11 @@ module _ (q : Request) (e : MBRPartitionEntry) (n : ℕ) where
   fails-rest r p s =
       ap first-fail (append-assoc (R ++ P ++ E) A C) ∙ fail-right (R ++ P ++ E) (A ++ C) (fail-right (R ++ P) E (place-holds r p) ∙ s)
 
+  -- the 25th is refused
+  push-few : first-fail (pushChecks q (some e) n) ≡ none → n < 24
+  unfolding pushChecks
+  push-few h = ltb-true n 24 (hold-right (R ++ P ++ E ++ A) C (none-fails (pushChecks q (some e) n) h) .0)
+
   -- at a place that serves, no sum leaves u32
   pub place-fits : first-fail P ≡ none → (placeOf q + q .align < 2 ^ 32) × (q .align ≤ sizeOf q)
   unfolding placeChecks
@@ -70,6 +89,25 @@ module _ (q : Request) (e : MBRPartitionEntry) (n : ℕ) where
       let h = none-fails P p in
       let a : 2 * q .align ≤ sizeOf q = leb-true _ _ (h .1 .0) in
       (ltb-true _ _ (h .1 .1 .0), omega arith)
+
+  -- the new partition, or a refusal
+  module _ (r : Updated) where
+    abbrev new : LogicalPartition
+    new = newLogical (laterThan n) q
+
+    pub push-refuses : (k : ℕ) → first-fail (pushChecks q (some e) n) ≡ some k → Refuses k r → Made (pushChecks q (some e) n) new r
+    push-refuses k f w = made-refused (pushChecks q (some e) n) new r k f w
+
+    pub push-goes-on : first-fail (pushChecks q (some e) n) ≡ first-fail (A ++ C) → Made (A ++ C) new r → Made (pushChecks q (some e) n) new r
+    push-goes-on f w =
+        let deny : ℕ → LogicalPartition = λ _. emptySlot in
+        (w .0 ∙ sym f, w .1 ∙ sym (checked-fail (pushChecks q (some e) n) deny new ∙ ap (λ o. onFail o deny new) f ∙ sym (checked-fail (A ++ C) deny new)))
+
+    pub push-gives : Made (pushChecks q (some e) n) new r → refusal (r .answer) ≡ none
+        → (first-fail (pushChecks q (some e) n) ≡ none) × (r .logical ≡ new) × (n < 24)
+    push-gives w d =
+        let f = sym (w .0) ∙ d in
+        (f, w .1 ∙ checked-none (pushChecks q (some e) n) (λ _. emptySlot) new f, push-few f)
 
 -- the addresses, then the 25th
 module _ (q : Request) (n : ℕ) where
@@ -89,15 +127,22 @@ module _ (q : Request) (n : ℕ) where
       let g : ltb n 24 ≡ true = lt-ltb n 24 h in
       fail-right a ((6 ! ltb n most) ∷ []) f ∙ rw g
 
+  module _ (r : Updated) where
+    abbrev made : LogicalPartition
+    made = newLogical (laterThan n) q
+
+    pub placed-refuses : (k : ℕ) → first-fail (a ++ (6 ! ltb n most) ∷ []) ≡ some k → Refuses k r → Made (a ++ (6 ! ltb n most) ∷ []) made r
+    placed-refuses k f w = made-refused (a ++ (6 ! ltb n most) ∷ []) made r k f w
+
+    pub placed-gives : first-fail (a ++ (6 ! ltb n most) ∷ []) ≡ none → refusal (r .answer) ≡ none → r .logical ≡ made → Made (a ++ (6 ! ltb n most) ∷ []) made r
+    placed-gives f d l = (d ∙ sym f, l ∙ sym (checked-none (a ++ (6 ! ltb n most) ∷ []) (λ _. emptySlot) made f))
+
 -- what rounding gives
 pub rounds : (q : Request) (p : Place) → answer (roundChecks q) (atPlace (placeOf q) (sizeOf q)) ≡ gives p
     → (first-fail (roundChecks q) ≡ none) × (p .at ≡ placeOf q) × (p .size ≡ sizeOf q)
 rounds q p h =
     let g = answer-gives (roundChecks q) (atPlace (placeOf q) (sizeOf q)) p h in
     (g .0, sym (ap (λ (x : Place). x .at) (g .1)), sym (ap (λ (x : Place). x .size) (g .1)))
-
-pub none-some : {o : Option ℕ} {k : ℕ} {A : Type 0} → o ≡ some k → o ≡ none → A
-none-some e f = let w : _≡_ {A = ℕ} 0 1 = cc in absurd (omega arith)
 
 -- push on a table whose extended entry is e
 module _ (t : MBR) (sys start sectors : ℕ) (h : t .count ≤ 24) where

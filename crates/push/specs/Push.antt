@@ -20,7 +20,7 @@ use Rattle.table.specs.Table.{most, extendedIn, withLogicals}
 use Rattle.address.specs.declared.Geometry.{Geometry}
 -- what is asked for: alignment, geometry, type, start and sectors
 pub use Rattle.request.specs.declared.Request.{Request}
-use Rattle.address.specs.Address.{complete, updateChecks, addressed}
+use Rattle.address.specs.Address.{slotGeometry, byGeometry}
 unfoldable pub use Rattle.request.specs.Asked.{rounded, roundChecks, placeChecks, endChecks}
 pub use Rattle.request.specs.Asked.{placeOf, sizeOf, laterThan}
 
@@ -46,11 +46,11 @@ fresh later q =
 
 -- the new partition: with addresses if the geometry is complete
 unfoldable pub newLogical : Bool → Request → LogicalPartition
-newLogical later q = pick (complete (q .geometry)) (addressed (q .geometry) (fresh later q)) (fresh later q)
+newLogical later q = byGeometry (q .geometry) (fresh later q)
 
 -- the addresses if the geometry is complete
 unfoldable pub geometryChecks : Bool → Request → List Check
-geometryChecks later q = pick (complete (q .geometry)) (updateChecks (q .geometry) (fresh later q)) []
+geometryChecks later q = slotGeometry (q .geometry) (fresh later q)
 
 abbrev pub isSome : Option MBRPartitionEntry → Bool
 isSome none = false

@@ -18,14 +18,14 @@ use table::MBR;
 use table::MaybeChs;
 use table::MaybeSectors;
 ghost use mathlib.Core.Path.{_≡_};
-ghost use mathlib.Core.Option.{none, some};
+ghost use mathlib.Core.Option.{some};
 ghost use Prim.Native.Nat.{_+_, _-_, _*_, _≤_, _<_, _^_};
 ghost use mathlib.Core.List.{[], _∷_, _++_};
 ghost use lib.Dec.{ltb};
 ghost use lib.ListN.{set};
 ghost use Rattle.base.specs.Said.{gives, refuses, refusal};
-ghost use Rattle.base.specs.Checks.{_!_, first-fail, answer};
-ghost use Rattle.table.specs.Table.{most, withLogicals};
+ghost use Rattle.base.specs.Checks.{_!_, first-fail, checked};
+ghost use Rattle.table.specs.Table.{most, emptySlot, withLogicals};
 ghost use Rattle.request.specs.Asked.{placeOf, sizeOf, laterThan};
 ghost use Rattle.push.specs.Push.{fresh, newLogical, geometryChecks, pushChecks, pushSays, pushTable};
 ghost use Rattle.push.specs.Answers.{completeSaid, checkGeometrySays, sizeSaid, cylinderSizeSays, pushSaid, linkSectors, linkLast};
@@ -123,8 +123,9 @@ fn fresh_logical(q: Request, p: Place, n: usize) -> LogicalPartition
     }
 }
 
+// A refusal, and an empty partition.
 fn refused(k: u8) -> Updated
-    ensures { λ r. ⌜ refusal (r .answer) ≡ some k ⌝ }
+    ensures { λ r. ⌜ (refusal (r .answer) ≡ some k) × (r .logical ≡ emptySlot) ⌝ }
 {
     addresses::as_given(LogicalPartition::empty(), k)
 }
@@ -133,7 +134,7 @@ fn refused(k: u8) -> Updated
 fn placed_logical(q: Request, p: Place, n: usize) -> Updated
     requires { ⌜ (p .at ≡ placeOf q) × (p .size ≡ sizeOf q) × (p .at + q .align < 2 ^ 32) × (q .align ≤ p .size) ⌝ }
     ensures { λ r. ⌜ refusal (r .answer) ≡ first-fail (geometryChecks (laterThan n) q ++ (6 ! ltb n most) ∷ []) ⌝ }
-    ensures { λ r. ⌜ (refusal (r .answer) ≡ none → (r .logical ≡ newLogical (laterThan n) q) × (n < 24)) ⌝ }
+    ensures { λ r. ⌜ r .logical ≡ checked (geometryChecks (laterThan n) q ++ (6 ! ltb n most) ∷ []) (λ _. emptySlot) (newLogical (laterThan n) q) ⌝ }
 {
     let l = fresh_logical(q, p, n);
     let g = q.geometry;
@@ -150,10 +151,10 @@ fn placed_logical(q: Request, p: Place, n: usize) -> Updated
     }
 }
 
-// The new partition of a request behind n others in an extended entry, or the first refusal.
+// The new partition of a request behind n others in an extended entry; or the first refusal, and an empty partition.
 pub fn new_logical(q: Request, e: MBRPartitionEntry, n: usize) -> Updated
     ensures { λ r. ⌜ refusal (r .answer) ≡ first-fail (pushChecks q (some e) n) ⌝ }
-    ensures { λ r. ⌜ (refusal (r .answer) ≡ none → (r .logical ≡ newLogical (laterThan n) q) × (n < 24)) ⌝ }
+    ensures { λ r. ⌜ r .logical ≡ checked (pushChecks q (some e) n) (λ _. emptySlot) (newLogical (laterThan n) q) ⌝ }
 {
     match request::rounding(q) {
         Rounded::Refused(k) => refused(k),

@@ -7,17 +7,17 @@ ghost use mathlib.Core.Option.{none};
 ghost use Prim.Native.Nat.{_<_};
 ghost use lib.ListN.{getD};
 ghost use Rattle.base.specs.Said.{refusal};
-ghost use Rattle.base.specs.Checks.{first-fail};
+ghost use Rattle.base.specs.Checks.{first-fail, checked};
 ghost use Rattle.table.specs.Table.{logicals, noLogical};
 ghost use Rattle.block.specs.Block.{tableIn};
 ghost use Rattle.push.specs.Push.{geometryOf};
 ghost use Rattle.settled.specs.Settle.{firstAt, Held, slotGeometry, geometryChecks, settledIn};
 
-// The logical partition of a slot, placed and with its addresses, if the geometry is complete.
+// The logical partition of a slot, placed and with its addresses, if the geometry is complete; placed alone beside a refusal.
 pub fn addressed_slot(b: &[u8], x: u32, i: usize) -> Updated
     requires { ⌜ Held (now b) × (i < tableIn (now b) .count) ⌝ }
     ensures { λ r. ⌜ refusal (r .answer) ≡ first-fail (slotGeometry (geometryOf (tableIn (now (b .entry)))) (getD (firstAt x (logicals (tableIn (now (b .entry))))) i noLogical)) ⌝ }
-    ensures { λ r. ⌜ (refusal (r .answer) ≡ none → r .logical ≡ getD (settledIn (tableIn (now (b .entry))) x) i noLogical) ⌝ }
+    ensures { λ r. ⌜ r .logical ≡ checked (slotGeometry (geometryOf (tableIn (now (b .entry)))) (getD (firstAt x (logicals (tableIn (now (b .entry))))) i noLogical)) (λ _. getD (firstAt x (logicals (tableIn (now (b .entry))))) i noLogical) (getD (settledIn (tableIn (now (b .entry))) x) i noLogical) ⌝ }
 {
     let l = placed::placed_slot(b, x, i);
     addresses::with_geometry(placed::geometry(b), l)

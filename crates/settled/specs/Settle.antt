@@ -6,7 +6,6 @@ use mathlib.Core.Option.{Option, none, some}
 use lib.Dec.{ltb}
 use mathlib.Core.Path.{_≡_}
 use lib.ListN.{length, drop}
-use Rattle.base.specs.Pick.{pick}
 use Rattle.base.specs.Checks.{Check, _!_}
 use Rattle.base.specs.Row.{next}
 use Rattle.entry.specs.Entry.{flagOk}
@@ -20,7 +19,7 @@ use Rattle.table.specs.Table.{most, logicals, withLogicals}
 use Rattle.block.specs.Block.{blockLength, tableIn}
 use Rattle.chain.specs.Facts.{at}
 use Rattle.address.specs.declared.Geometry.{Geometry}
-use Rattle.push.specs.Address.{complete, updateChecks, addressed}
+pub use Rattle.address.specs.Address.{slotGeometry, byGeometry}
 use Rattle.push.specs.Push.{geometryOf}
 
 -- the EBR at X, without link sectors and last link CHS
@@ -39,14 +38,6 @@ atStart X l =
 unfoldable pub firstAt : ℕ → List LogicalPartition → List LogicalPartition
 firstAt X [] = []
 firstAt X (l ∷ ls) = atStart X l ∷ ls
-
--- with its four addresses, if the geometry is complete; else as it is
-abbrev pub byGeometry : Geometry → LogicalPartition → LogicalPartition
-byGeometry g l = pick (complete g) (addressed g l) l
-
--- the refusals of its addresses
-abbrev pub slotGeometry : Geometry → LogicalPartition → List Check
-slotGeometry g l = pick (complete g) (updateChecks g l) []
 
 -- the refusals of the addresses, one logical partition after the other
 unfoldable pub allGeometry : Geometry → List LogicalPartition → List Check

@@ -1,6 +1,6 @@
-use Rattle.address.proofs.Steps.{update-failure, update-gives}
-use borrow.Author.Tests.{lt-ltb, le-ltb, lt-leb, le-leb, not-true, not-false}
-use mathlib.Core.Path.{_≡_, refl, sym, ap, _∙_}
+use Rattle.address.proofs.Steps.{update-failure, update-value}
+use borrow.Author.Tests.{not-true, not-false}
+use mathlib.Core.Path.{sym, _∙_}
 use borrow.Author.Needs.{needs}
 use Rattle.addresses.proofs.with_geometry.Statement.{statement}
 use Rattle.addresses.proofs.with_geometry.Tie as tie
@@ -11,7 +11,7 @@ is-complete-requires c κs = search needs
 returns : tie.Need-returns
 returns c =
     let f = sym (c .before .is-complete .ensures) ∙ not-true _ (c .if1 .taken) in
-    (rw f, λ _. rw f)
+    (rw f, rw f)
 
 update-requires : tie.Need-update-requires
 update-requires c κs = search needs
@@ -20,8 +20,7 @@ returns-2 : tie.Need-returns-2
 returns-2 c =
     let f = sym (c .before .before .is-complete .ensures) ∙ not-false _ (c .before .if1 .left) in
     let a = c .before .before .before .args in
-    let h = c .update .ensures .0 ∙ update-failure (a .g) (a .l) in
-    (rw f h, λ n. rw f (c .update .ensures .1 ∙ update-gives (a .g) (a .l) (sym h ∙ n)))
+    (rw f (c .update .ensures .0 ∙ update-failure (a .g) (a .l)), rw f (c .update .ensures .1 ∙ update-value (a .g) (a .l)))
 
 pub with-geometry-spec : {M : Type 1} → statement M
 with-geometry-spec = tie.close (tie.spec is-complete-requires returns update-requires returns-2)

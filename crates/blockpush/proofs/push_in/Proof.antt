@@ -5,7 +5,7 @@ use Rattle.base.specs.Said.{refusal}
 use Rattle.block.specs.Block.{tableIn}
 use Rattle.inblock.specs.Changed.{withSlot}
 use Rattle.inblock.proofs.Alike.{passed}
-use Rattle.push.proofs.Steps.{push-fails, push-done as push-gives}
+use Rattle.push.proofs.Steps.{push-fails, push-gives as push-new, push-done as push-gives}
 use Rattle.onblock.proofs.Laws.{block-length}
 use Rattle.table.specs.declared.LogicalPartition.{LogicalPartition}
 use Rattle.blockpush.proofs.Kept.{new-kept}
@@ -34,11 +34,15 @@ enum-told c = search needs
 
 add-new-requires : tie.Need-add-new-requires
 add-new-requires c κs =
-    let l = c .before .before .before .before .new-logical .ensures .1 (ap refusal (c .before .before .enum-told .given .1)) in
-    (block-length (c .before .before .before .before .before .before .before .before .before .before .args .b .now) (c .before .before .before .before .before .before .before .before .before .before .pre .0), l .1, ap (λ (l : LogicalPartition). l .kept) (l .0) ∙ new-kept _ _)
+    let s = c .before .before .before .before .before .before .before .before .before .before in
+    let u = c .before .before .before .before .new-logical in
+    let l = push-new (c .before .before .before .before .before .request-in .result) (s .args .e) (c .before .before .before .before .before .before .before .count .result) (u .result) (u .ensures) (ap refusal (c .before .before .enum-told .given .1)) in
+    (block-length (s .args .b .now) (s .pre .0), l .2, ap (λ (l : LogicalPartition). l .kept) (l .1) ∙ new-kept _ _)
 
 add-result : tie.Need-add-result
-add-result c = omega (arith, c .before .before .before .before .before .before .before .new-logical .ensures .1 (ap refusal (c .before .before .before .before .before .enum-told .given .1)) .1)
+add-result c =
+    let u = c .before .before .before .before .before .before .before .new-logical in
+    omega (arith, push-new (c .before .before .before .before .before .before .before .before .request-in .result) (c .before .before .before .before .before .before .before .before .before .before .before .before .before .args .e) (c .before .before .before .before .before .before .before .before .before .before .count .result) (u .result) (u .ensures) (ap refusal (c .before .before .before .before .before .enum-told .given .1)) .2)
 
 same-length : tie.Need-same-length
 same-length c = search needs
@@ -65,12 +69,13 @@ returns-2 c =
     let t = tableIn b in
     let q = c .before .before .before .before .before .before .before .before .request-in .ensures in
     let n = c .before .before .before .before .before .before .before .before .before .before .count .ensures in
-    let d = ap refusal (c .before .before .before .before .before .enum-told .given .1) in
+    let u = c .before .before .before .before .before .before .before .new-logical in
+    let g = push-new (c .before .before .before .before .before .before .before .before .request-in .result) (a .e) (c .before .before .before .before .before .before .before .before .before .before .count .result) (u .result) (u .ensures) (ap refusal (c .before .before .before .before .before .enum-told .given .1)) in
     let x = asked t (a .sys) (a .start) (a .sectors) _ (a .e) _ q n in
-    let f = x ∙ sym (c .before .before .before .before .before .before .before .new-logical .ensures .0) ∙ d in
-    let l = c .before .before .before .before .before .before .before .new-logical .ensures .1 d .0 ∙ made t (a .sys) (a .start) (a .sectors) _ _ q n in
+    let f = x ∙ g .0 in
+    let l = g .1 ∙ made t (a .sys) (a .start) (a .sectors) _ _ q n in
     let p = push-gives t (a .sys) (a .start) (a .sectors) (passed b (s .pre .0) .few) (a .e) (s .pre .1) f .0 in
-    let w = push-done b (a .sys) (a .start) (a .sectors) _ _ p l (c .before .before .add-new .ensures ∙ ap (λ (m : ℕ). withSlot b m (c .before .before .before .before .before .before .before .new-logical .result .logical)) n) in
+    let w = push-done b (a .sys) (a .start) (a .sectors) _ _ p l (c .before .before .add-new .ensures ∙ ap (λ (m : ℕ). withSlot b m (u .result .logical)) n) in
     (ap (λ (m : ℕ). m + 5) n ∙ w .0, w .1)
 
 pub push-in-spec : {M : Type 1} → statement M

@@ -2,6 +2,7 @@ use mathlib.Core.Path.{sym, ap, _∙_}
 use lib.ListN.{length}
 use Rattle.base.specs.Said.{refusal}
 use Rattle.push.specs.Push.{laterThan, newLogical}
+use Rattle.push.proofs.Steps.{push-gives}
 use Rattle.pushwrite.proofs.Laws.{tells-refused, tells-same}
 use Rattle.change.proofs.Laws.{behind-fails, behind-holds}
 use Rattle.pushstore.specs.Space.{spaceBehind}
@@ -41,12 +42,11 @@ returns-2 c =
     let o = a .out .now in
     let cs = checksBehind (length o) (a .q) (a .e) (a .n) (a .last) in
     let ss = storesBehind (a .e) (a .n) (a .last) (newLogical (laterThan (a .n)) (a .q)) in
-    let d = ap refusal (c .before .before .before .before .before .enum-told .given .1) in
-    let f = sym (c .before .before .before .before .before .before .before .new-logical .ensures .0) ∙ d in
-    let m = c .before .before .before .before .before .before .before .new-logical .ensures .1 d .0 in
-    let l = c .before .before .before .before .before .before .before .new-logical .result .logical in
+    let u = c .before .before .before .before .before .before .before .new-logical in
+    let g = push-gives (a .q) (a .e) (a .n) (u .result) (u .ensures) (ap refusal (c .before .before .before .before .before .enum-told .given .1)) in
+    let l = u .result .logical in
     let us = storesBehind (a .e) (a .n) (a .last) l in
-    tells-same (c .before .before .push-new .result) o _ cs (spaceBehind (a .e) (a .last) l (length o)) ss us (behind-holds (length o) (a .q) (a .e) (a .n) (a .last) l f m) (ap (storesBehind (a .e) (a .n) (a .last)) (sym m)) (c .before .before .push-new .ensures)
+    tells-same (c .before .before .push-new .result) o _ cs (spaceBehind (a .e) (a .last) l (length o)) ss us (behind-holds (length o) (a .q) (a .e) (a .n) (a .last) l (g .0) (g .1)) (ap (storesBehind (a .e) (a .n) (a .last)) (sym (g .1))) (c .before .before .push-new .ensures)
 
 pub push-behind-spec : {M : Type 1} → statement M
 push-behind-spec =

@@ -1,10 +1,13 @@
-use lib.ListN.{length, take}
+use lib.ListN.{length, getD, take}
 use Prim.Native.Nat.{_-_, _≤_, _<_}
 use mathlib.Core.Path.{_≡_, refl, _∙_}
 use native.Mathlib.Omega.{arith}
+use Rattle.base.proofs.Checks.{checked-none}
 use Rattle.block.specs.Block.{slotsPut, tableIn}
 use Rattle.block.specs.Fits.{SlotsFit}
-use Rattle.settled.specs.Settle.{settledIn}
+use Rattle.table.specs.Table.{logicals, noLogical}
+use Rattle.push.specs.Push.{geometryOf}
+use Rattle.settled.specs.Settle.{firstAt, slotGeometry, settledIn}
 use Rattle.leave.proofs.Laws.{leave-start, turn-held, turn-in, turn-none, turn-same, turn-put, leave-end}
 use borrow.Author.Needs.{needs}
 use Rattle.leave.proofs.leave.Statement.{statement}
@@ -60,7 +63,8 @@ loop-again c =
     let k = here (c .before .before .before .before .before .before .before) in
     let v = c .before .before .before .before .before .addressed-slot .ensures in
     let p = c .before .before .put-fit .ensures in
-    let e = v .1 (v .0 ∙ turn-none d (l .b) x (l .i) (s .pre .0) k (l .inv .3) (l .inv .2) (s .pre .1)) ∙ turn-same d (l .b) x (l .i) (s .pre .0) k (l .inv .3) (l .inv .2) in
+    let m = getD (firstAt x (logicals (tableIn (l .b)))) (l .i) noLogical in
+    let e = v .1 ∙ checked-none (slotGeometry (geometryOf (tableIn (l .b))) m) (λ _. m) (getD (settledIn (tableIn (l .b)) x) (l .i) noLogical) (turn-none d (l .b) x (l .i) (s .pre .0) k (l .inv .3) (l .inv .2) (s .pre .1)) ∙ turn-same d (l .b) x (l .i) (s .pre .0) k (l .inv .3) (l .inv .2) in
     let w = turn-put d (l .b) x (l .i) (s .pre .0) k (l .inv .3) (l .inv .2) _ _ e (p .1) (p .0) in
     (search needs, search needs, w .0, w .1)
 

@@ -1,10 +1,9 @@
-use native.Mathlib.Omega.{arith}
 use Rattle.request.specs.Asked.{roundChecks}
 use Rattle.base.proofs.Checks.{answer-refuses}
 use Rattle.base.specs.Said.{refusal}
 use Rattle.request.specs.Answers.{roundedSaid}
-use Rattle.push.proofs.Steps.{rounds, place-fits, fails-round, fails-place, fails-end, fails-rest, none-some}
-use mathlib.Core.Path.{_≡_, refl, sym, ap, _∙_}
+use Rattle.push.proofs.Steps.{rounds, place-fits, fails-round, fails-place, fails-end, fails-rest, push-refuses, push-goes-on}
+use mathlib.Core.Path.{sym, ap, _∙_}
 use borrow.Author.Needs.{needs}
 use Rattle.push.proofs.new_logical.Statement.{statement}
 use Rattle.push.proofs.new_logical.Tie as tie
@@ -62,14 +61,14 @@ returns : tie.Need-returns
 returns c =
     let a = c .before .before .before .before .before .args in
     let f = answer-refuses (roundChecks (a .q)) _ _ (sym (c .before .before .before .before .rounding .ensures) ∙ ap roundedSaid (c .before .before .k .given .1)) in
-    (c .refused .ensures ∙ sym (fails-round (a .q) (a .e) (a .n) _ f), λ z. none-some (c .refused .ensures) z)
+    push-refuses (a .q) (a .e) (a .n) (c .refused .result) _ (fails-round (a .q) (a .e) (a .n) _ f) (c .refused .ensures)
 
 returns-2 : tie.Need-returns-2
 returns-2 c =
     let a = c .before .before .before .before .before .before .before .before .before .args in
     let r = rounds (a .q) _ (sym (c .before .before .before .before .before .before .before .before .rounding .ensures) ∙ ap roundedSaid (c .before .before .before .before .before .before .p .given .1)) in
     let f = sym (c .before .before .before .before .place-rules .ensures) ∙ ap refusal (c .before .before .k2 .given .1) in
-    (c .refused2 .ensures ∙ sym (fails-place (a .q) (a .e) (a .n) _ (r .0) f), λ z. none-some (c .refused2 .ensures) z)
+    push-refuses (a .q) (a .e) (a .n) (c .refused2 .result) _ (fails-place (a .q) (a .e) (a .n) _ (r .0) f) (c .refused2 .ensures)
 
 returns-3 : tie.Need-returns-3
 returns-3 c =
@@ -77,7 +76,7 @@ returns-3 c =
     let r = rounds (a .q) _ (sym (c .before .before .before .before .before .before .before .before .before .before .before .rounding .ensures) ∙ ap roundedSaid (c .before .before .before .before .before .before .before .before .before .p .given .1)) in
     let f = sym (c .before .before .before .before .before .before .before .place-rules .ensures) ∙ ap refusal (c .before .before .before .before .before .enum-told .given .1) in
     let g = sym (c .before .before .before .before .end-rules .ensures) ∙ ap refusal (c .before .before .k3 .given .1) in
-    (c .refused3 .ensures ∙ sym (fails-end (a .q) (a .e) (a .n) _ (r .0) f g), λ z. none-some (c .refused3 .ensures) z)
+    push-refuses (a .q) (a .e) (a .n) (c .refused3 .result) _ (fails-end (a .q) (a .e) (a .n) _ (r .0) f g) (c .refused3 .ensures)
 
 returns-4 : tie.Need-returns-4
 returns-4 c =
@@ -85,7 +84,7 @@ returns-4 c =
     let r = rounds (a .q) _ (sym (c .before .before .before .before .before .before .before .before .before .before .rounding .ensures) ∙ ap roundedSaid (c .before .before .before .before .before .before .before .before .p .given .1)) in
     let f = sym (c .before .before .before .before .before .before .place-rules .ensures) ∙ ap refusal (c .before .before .before .before .enum-told .given .1) in
     let g = sym (c .before .before .before .end-rules .ensures) ∙ ap refusal (c .before .enum-told2 .given .1) in
-    (c .placed-logical .ensures .0 ∙ sym (fails-rest (a .q) (a .e) (a .n) (r .0) f g), c .placed-logical .ensures .1)
+    push-goes-on (a .q) (a .e) (a .n) (c .placed-logical .result) (fails-rest (a .q) (a .e) (a .n) (r .0) f g) (c .placed-logical .ensures)
 
 pub new-logical-spec : {M : Type 1} → statement M
 new-logical-spec =

@@ -1,12 +1,11 @@
 use Rattle.table.specs.declared.LogicalPartition.{LogicalPartition}
-use mathlib.Core.List.{[]}
-use Rattle.base.specs.Pick.{pick}
 use Rattle.base.specs.Checks.{first-fail}
 use Rattle.base.specs.Said.{refusal}
-use Rattle.address.specs.Address.{complete, updateChecks, addressed}
+use Rattle.base.proofs.Checks.{checked-none}
+use Rattle.address.specs.Address.{slotGeometry, byGeometry}
 use Rattle.push.specs.Push.{geometryChecks, newLogical}
-use Rattle.push.proofs.Steps.{fails-address, fails-count, fails-none, none-some}
-use mathlib.Core.Path.{_≡_, refl, sym, ap, _∙_}
+use Rattle.push.proofs.Steps.{fails-address, fails-count, fails-none, placed-refuses, placed-gives}
+use mathlib.Core.Path.{sym, ap, _∙_}
 use borrow.Author.Needs.{needs}
 use Rattle.push.proofs.placed_logical.Statement.{statement}
 use Rattle.push.proofs.placed_logical.Tie as tie
@@ -34,26 +33,30 @@ unfolding geometryChecks newLogical
 returns c =
     let a = c .before .before .before .before .before .before .before .args in
     let q = a .q in
-    let o = ap (λ (l : LogicalPartition). first-fail (pick (complete (q .geometry)) (updateChecks (q .geometry) l) [])) (sym (c .before .before .before .before .before .before .fresh-logical .ensures)) ∙ sym (c .before .before .before .before .with-geometry .ensures .0) ∙ ap refusal (c .before .before .enum-told .given .1) in
-    (c .refused2 .ensures ∙ sym (fails-count q (a .n) o (c .before .if1 .taken)), λ z. none-some (c .refused2 .ensures) z)
+    let o = ap (λ (l : LogicalPartition). first-fail (slotGeometry (q .geometry) l)) (sym (c .before .before .before .before .before .before .fresh-logical .ensures)) ∙ sym (c .before .before .before .before .with-geometry .ensures .0) ∙ ap refusal (c .before .before .enum-told .given .1) in
+    placed-refuses q (a .n) (c .refused2 .result) 6 (fails-count q (a .n) o (c .before .if1 .taken)) (c .refused2 .ensures)
 
 returns-2 : tie.Need-returns-2
 unfolding geometryChecks newLogical
 returns-2 c =
     let a = c .before .before .before .before .before .before .before .args in
     let q = a .q in
-    let o = ap (λ (l : LogicalPartition). first-fail (pick (complete (q .geometry)) (updateChecks (q .geometry) l) [])) (sym (c .before .before .before .before .before .before .fresh-logical .ensures)) ∙ sym (c .before .before .before .before .with-geometry .ensures .0) ∙ ap refusal (c .before .before .a .given .1) in
-    (c .refused .ensures ∙ sym (fails-address q (a .n) _ o), λ z. none-some (c .refused .ensures) z)
+    let o = ap (λ (l : LogicalPartition). first-fail (slotGeometry (q .geometry) l)) (sym (c .before .before .before .before .before .before .fresh-logical .ensures)) ∙ sym (c .before .before .before .before .with-geometry .ensures .0) ∙ ap refusal (c .before .before .a .given .1) in
+    placed-refuses q (a .n) (c .refused .result) _ (fails-address q (a .n) _ o) (c .refused .ensures)
 
 returns-3 : tie.Need-returns-3
 unfolding geometryChecks newLogical
 returns-3 c =
     let a = c .before .before .before .before .before .before .args in
     let q = a .q in
-    let o = ap (λ (l : LogicalPartition). first-fail (pick (complete (q .geometry)) (updateChecks (q .geometry) l) [])) (sym (c .before .before .before .before .before .fresh-logical .ensures)) ∙ sym (c .before .before .before .with-geometry .ensures .0) ∙ ap refusal (c .before .enum-told .given .1) in
+    let l = c .before .before .before .before .before .fresh-logical .result in
+    let e = c .before .before .before .before .before .fresh-logical .ensures in
+    let w = c .before .before .before .with-geometry .ensures in
     let d = ap refusal (c .before .enum-told .given .1) in
-    let m = c .before .before .before .with-geometry .ensures .1 d ∙ ap (λ (l : LogicalPartition). pick (complete (q .geometry)) (addressed (q .geometry) l) l) (c .before .before .before .before .before .fresh-logical .ensures) in
-    (d ∙ sym (fails-none q (a .n) o (c .if1 .left)), λ z. (m, c .if1 .left))
+    let f = sym (w .0) ∙ d in
+    let o = ap (λ (l : LogicalPartition). first-fail (slotGeometry (q .geometry) l)) (sym e) ∙ f in
+    let m = w .1 ∙ checked-none (slotGeometry (q .geometry) l) (λ _. l) (byGeometry (q .geometry) l) f ∙ ap (byGeometry (q .geometry)) e in
+    placed-gives q (a .n) (c .before .before .before .with-geometry .result) (fails-none q (a .n) o (c .if1 .left)) d m
 
 pub placed-logical-spec : {M : Type 1} → statement M
 placed-logical-spec =

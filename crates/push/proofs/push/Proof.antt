@@ -4,8 +4,8 @@ use Rattle.table.specs.Table.{withLogicals}
 use Rattle.table.specs.declared.LogicalPartition.{LogicalPartition}
 use Rattle.mbr.specs.Mbr.{found}
 use Rattle.base.specs.Said.{refusal}
-use Rattle.push.specs.Push.{pushSays, pushTable, tableChecks}
-use Rattle.push.proofs.Steps.{push-eight, push-fails, push-done}
+use Rattle.push.specs.Push.{requestOf, pushSays, pushTable, tableChecks}
+use Rattle.push.proofs.Steps.{push-gives, push-eight, push-fails, push-done}
 use borrow.Author.Tests.{lt-ltb, le-ltb, lt-leb, le-leb, not-true, not-false}
 use mathlib.Core.Path.{_≡_, refl, sym, ap, _∙_}
 use borrow.Author.Needs.{needs}
@@ -46,7 +46,9 @@ enum-told-2 : tie.Need-enum-told-2
 enum-told-2 c = search needs
 
 append-requires : tie.Need-append-requires
-append-requires c κs = c .before .before .before .new-logical .ensures .1 (ap refusal (c .before .enum-told2 .given .1)) .1
+append-requires c κs =
+    let a = c .before .before .before .before .before .before .before .before .before .before .args in
+    push-gives (requestOf (a .t) (a .sys) (a .starting-lba) (a .sectors)) (c .before .before .before .before .before .e .given .0 .0) (a .t .count) (c .before .before .before .new-logical .result) (c .before .before .before .new-logical .ensures) (ap refusal (c .before .enum-told2 .given .1)) .2
 
 returns-2 : tie.Need-returns-2
 returns-2 c =
@@ -67,11 +69,9 @@ returns-4 : tie.Need-returns-4
 returns-4 c =
     let a = c .before .before .before .before .before .before .before .before .before .before .before .args in
     let x = sym (c .before .before .before .before .before .before .before .before .get-extended-partition .ensures) ∙ ap found (c .before .before .before .before .before .before .e .given .1) in
-    let d = ap refusal (c .before .before .enum-told2 .given .1) in
-    let f = sym (c .before .before .before .before .new-logical .ensures .0) ∙ d in
-    let z = push-done (a .t) (a .sys) (a .starting-lba) (a .sectors) (c .before .before .before .before .before .before .before .before .before .before .if1 .left) _ x f in
-    let l = c .before .before .before .before .new-logical .ensures .1 d .0 in
-    (c .append .ensures .0 ∙ sym (z .0), c .append .ensures .1 ∙ ap (λ (m : LogicalPartition). withLogicals (a .t) (set (a .t .«logical_partitions») (a .t .count) m) (a .t .count + 1)) l ∙ sym (z .1))
+    let m = push-gives (requestOf (a .t) (a .sys) (a .starting-lba) (a .sectors)) (c .before .before .before .before .before .before .e .given .0 .0) (a .t .count) (c .before .before .before .before .new-logical .result) (c .before .before .before .before .new-logical .ensures) (ap refusal (c .before .before .enum-told2 .given .1)) in
+    let z = push-done (a .t) (a .sys) (a .starting-lba) (a .sectors) (c .before .before .before .before .before .before .before .before .before .before .if1 .left) _ x (m .0) in
+    (c .append .ensures .0 ∙ sym (z .0), c .append .ensures .1 ∙ ap (λ (m : LogicalPartition). withLogicals (a .t) (set (a .t .«logical_partitions») (a .t .count) m) (a .t .count + 1)) (m .1) ∙ sym (z .1))
 
 pub push-spec : {M : Type 1} → statement M
 push-spec =

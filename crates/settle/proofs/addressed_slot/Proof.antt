@@ -1,11 +1,12 @@
 use mathlib.Core.Path.{sym, ap, _∙_}
-use Rattle.base.specs.Checks.{first-fail}
+use lib.ListN.{getD}
+use Rattle.base.specs.Checks.{first-fail, checked}
 use Rattle.table.specs.declared.LogicalPartition.{LogicalPartition}
-use Rattle.table.specs.Table.{logicals}
+use Rattle.table.specs.Table.{logicals, noLogical}
 use Rattle.address.specs.declared.Geometry.{Geometry}
 use Rattle.block.specs.Block.{tableIn}
 use Rattle.push.specs.Push.{geometryOf}
-use Rattle.settled.specs.Settle.{byGeometry, slotGeometry}
+use Rattle.settled.specs.Settle.{firstAt, byGeometry, slotGeometry}
 use Rattle.settled.proofs.Laws.{settled-at, held-in}
 use borrow.Author.Needs.{needs}
 use Rattle.settle.proofs.addressed_slot.Statement.{statement}
@@ -30,7 +31,13 @@ returns c =
     let g = c .before .geometry .ensures in
     let p = c .before .before .placed-slot .ensures in
     let w = c .with-geometry .ensures in
-    (w .0 ∙ ap (λ (g : Geometry). first-fail (slotGeometry g l)) g ∙ ap (λ (l : LogicalPartition). first-fail (slotGeometry q l)) p, λ z. w .1 z ∙ ap (λ (g : Geometry). byGeometry g l) g ∙ ap (byGeometry q) p ∙ sym (settled-at q (a .x) (a .i) (logicals t) (held-in (a .b .now) (s .pre .0) (a .x) (a .i) (s .pre .1))))
+    let m = getD (firstAt (a .x) (logicals t)) (a .i) noLogical in (
+      w .0 ∙ ap (λ (g : Geometry). first-fail (slotGeometry g l)) g ∙ ap (λ (l : LogicalPartition). first-fail (slotGeometry q l)) p,
+      w .1
+          ∙ ap (λ (g : Geometry). checked (slotGeometry g l) (λ _. l) (byGeometry g l)) g
+          ∙ ap (λ (l : LogicalPartition). checked (slotGeometry q l) (λ _. l) (byGeometry q l)) p
+          ∙ ap (checked (slotGeometry q m) (λ _. m)) (sym (settled-at q (a .x) (a .i) (logicals t) (held-in (a .b .now) (s .pre .0) (a .x) (a .i) (s .pre .1)))),
+    )
 
 pub addressed-slot-spec : {M : Type 1} → statement M
 addressed-slot-spec =

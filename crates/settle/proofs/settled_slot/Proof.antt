@@ -1,4 +1,10 @@
 use mathlib.Core.Path.{_∙_}
+use lib.ListN.{getD}
+use Rattle.base.proofs.Checks.{checked-none}
+use Rattle.table.specs.Table.{logicals, noLogical}
+use Rattle.block.specs.Block.{tableIn}
+use Rattle.push.specs.Push.{geometryOf}
+use Rattle.settled.specs.Settle.{firstAt, slotGeometry, settledIn}
 use Rattle.settled.proofs.Laws.{held-none}
 use borrow.Author.Needs.{needs}
 use Rattle.settle.proofs.settled_slot.Statement.{statement}
@@ -12,7 +18,9 @@ returns c =
     let s = c .before .before .before in
     let a = s .args in
     let r = c .before .addressed-slot .ensures in
-    r .1 (r .0 ∙ held-none (a .b .now) (s .pre .0) (a .x) (a .i) (s .pre .1) (s .pre .2))
+    let t = tableIn (a .b .now) in
+    let m = getD (firstAt (a .x) (logicals t)) (a .i) noLogical in
+    r .1 ∙ checked-none (slotGeometry (geometryOf t) m) (λ _. m) (getD (settledIn t (a .x)) (a .i) noLogical) (held-none (a .b .now) (s .pre .0) (a .x) (a .i) (s .pre .1) (s .pre .2))
 
 pub settled-slot-spec : {M : Type 1} → statement M
 settled-slot-spec = tie.close (tie.spec addressed-slot-requires returns)

@@ -4,7 +4,7 @@ use plan::Slot;
 ghost use mathlib.Core.Path.{_≡_};
 ghost use Prim.Native.Nat.{_≤_};
 ghost use Rattle.extract.specs.Extract.{Good, count};
-ghost use Rattle.plan.specs.Plan.{planned};
+ghost use Rattle.plan.specs.Plan.{planOf};
 ghost use Rattle.block.specs.Block.{tableIn};
 ghost use Rattle.settled.specs.Settle.{Held, settledIn};
 ghost use Rattle.sources.specs.Sources.{slotsOf};
@@ -13,7 +13,7 @@ ghost use Rattle.sources.specs.Sources.{slotsOf};
 // order; the first EBR goes to `first_at`.
 pub fn plan_for(x: &[u8], n: usize, b: &[u8], first_at: u32, m: usize) -> Plan
     requires { ⌜ (n ≡ count (now x)) × Good (now x) × Held (now b) × (m ≡ tableIn (now b) .count) ⌝ }
-    ensures { λ r. ⌜ (planned r ≡ slotsOf (now (x .entry)) (settledIn (tableIn (now (b .entry))) «first_at»)) × (r .count ≤ 89) ⌝ }
+    ensures { λ r. ⌜ (r ≡ planOf (slotsOf (now (x .entry)) (settledIn (tableIn (now (b .entry))) «first_at»))) × (r .count ≤ 89) ⌝ }
 {
     let mut p = plan::lay(plan::old(x, n), Slot { lba: 0, source: 64 });
     for i in 0..m {

@@ -5,10 +5,11 @@ use mathlib.Core.Path.{_≡_, refl, sym, ap, _∙_}
 use native.Mathlib.Omega.{arith}
 use Rattle.extract.specs.declared.Extract.{Extract}
 use Rattle.plan.specs.Plan.{planned, Each}
+use Rattle.plan.proofs.Laws.{planned-of}
 use Rattle.table.specs.declared.LogicalPartition.{LogicalPartition}
 use Rattle.block.specs.Block.{tableIn}
 use Rattle.settled.specs.Settle.{settledIn}
-use Rattle.sources.specs.Sources.{CodeLong}
+use Rattle.sources.specs.Sources.{slotsOf, CodeLong}
 use Rattle.sources.proofs.Laws.{codes-held}
 use Rattle.newextract.proofs.Room.{room-many, room-short, room-fine}
 use borrow.Author.Needs.{needs}
@@ -20,6 +21,10 @@ long c =
     let r = c .plan-for .result in
     let n = sym (length-map (r .slots) _) ∙ c .plan-for .ok .1 .1 .0 .1 .0 .1 in
     length-take-le (r .count) (r .slots) (omega (arith, c .plan-for .ensures .1))
+
+slots-of : (c : tie.After-plan-for)
+    → (let a = c .before .before .before .before .before .args in planned (c .plan-for .result) ≡ slotsOf (a .x .now) (settledIn (tableIn (a .b .now)) (a .e .«starting_lba»)))
+slots-of c = planned-of (c .plan-for .result) _ (c .plan-for .ensures .0)
 
 module _ (s : tie.Start) where
   abbrev ls : List LogicalPartition
@@ -35,7 +40,7 @@ returns : tie.Need-returns
 returns c =
     let s = c .before .before .before .before .before .before in
     let a = s .args in
-    room-many (a .x .now) (a .k .count) (a .m) (a .first .now) (ls s) (a .e) (s .pre .0 .0) (codes s) _ (c .before .plan-for .ensures .0) _ (long (c .before)) (a .out .now) (c .if1 .taken) _ refl
+    room-many (a .x .now) (a .k .count) (a .m) (a .first .now) (ls s) (a .e) (s .pre .0 .0) (codes s) _ (slots-of (c .before)) _ (long (c .before)) (a .out .now) (c .if1 .taken) _ refl
 
 mul-total : tie.Need-mul-total
 mul-total c = search needs
@@ -47,7 +52,7 @@ returns-2 : tie.Need-returns-2
 returns-2 c =
     let s = c .before .before .before .before .before .before .before in
     let a = s .args in
-    room-short (a .x .now) (a .k .count) (a .m) (a .first .now) (ls s) (a .e) (s .pre .0 .0) (codes s) _ (c .before .before .plan-for .ensures .0) _ (long (c .before .before)) (a .out .now) (c .before .if1 .left) (c .if2 .taken) _ refl
+    room-short (a .x .now) (a .k .count) (a .m) (a .first .now) (ls s) (a .e) (s .pre .0 .0) (codes s) _ (slots-of (c .before .before)) _ (long (c .before .before)) (a .out .now) (c .before .if1 .left) (c .if2 .taken) _ refl
 
 put-header-requires : tie.Need-put-header-requires
 put-header-requires c κs = search needs
@@ -65,7 +70,7 @@ put-records-requires : tie.Need-put-records-requires
 put-records-requires c κs =
     let s = c .before .before .before .before .before .before .before .before .before .before .before .before .before .before .before .before in
     let k = c .before .before .before .before .before .before .before .before .before .before .if1 .left in
-    ((s .pre .0 .0, c .before .before .before .before .before .before .before .before .before .before .before .plan-for .ensures .0), (s .pre .1, (k, omega (arith, k), omega (arith, c .before .before .before .before .before .before .before .before .before .if2 .left))))
+    ((s .pre .0 .0, slots-of (c .before .before .before .before .before .before .before .before .before .before .before)), (s .pre .1, (k, omega (arith, k), omega (arith, c .before .before .before .before .before .before .before .before .before .if2 .left))))
 
 same-length : tie.Need-same-length
 same-length c = search needs
@@ -74,7 +79,7 @@ returns-3 : tie.Need-returns-3
 returns-3 c =
     let s = c .before .before .before .before .before .before .before .before .before .before .before .before .before .before .before .before .before .before .before in
     let a = s .args in
-    room-fine (a .x .now) (a .k .count) (a .m) (a .first .now) (ls s) (a .e) (s .pre .0 .0) (codes s) _ (c .before .before .before .before .before .before .before .before .before .before .before .before .before .before .plan-for .ensures .0) _ (long (c .before .before .before .before .before .before .before .before .before .before .before .before .before .before)) (a .out .now) (c .before .before .before .before .before .before .before .before .before .before .before .before .before .if1 .left) (c .before .before .before .before .before .before .before .before .before .before .before .before .if2 .left) _ _ _ _ _ (ap (λ (j : Extract). j .«sector_size») (s .pre .0 .1)) (ap (λ (j : Extract). j .«disk_size») (s .pre .0 .1)) (c .before .before .before .before .before .before .before .before .before .before .put-header .ensures) (c .before .before .before .before .before .before .put-lbas .ensures) (c .before .before .put-records .ensures) _ refl
+    room-fine (a .x .now) (a .k .count) (a .m) (a .first .now) (ls s) (a .e) (s .pre .0 .0) (codes s) _ (slots-of (c .before .before .before .before .before .before .before .before .before .before .before .before .before .before)) _ (long (c .before .before .before .before .before .before .before .before .before .before .before .before .before .before)) (a .out .now) (c .before .before .before .before .before .before .before .before .before .before .before .before .before .if1 .left) (c .before .before .before .before .before .before .before .before .before .before .before .before .if2 .left) _ _ _ _ _ (ap (λ (j : Extract). j .«sector_size») (s .pre .0 .1)) (ap (λ (j : Extract). j .«disk_size») (s .pre .0 .1)) (c .before .before .before .before .before .before .before .before .before .before .put-header .ensures) (c .before .before .before .before .before .before .put-lbas .ensures) (c .before .before .put-records .ensures) _ refl
 
 pub put-table-spec : {M : Type 1} → statement M
 put-table-spec =

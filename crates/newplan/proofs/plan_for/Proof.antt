@@ -1,9 +1,10 @@
 use lib.ListN.{length, drop}
 use Prim.Native.Nat.{_+_, _-_, _≤_}
-use mathlib.Core.Path.{_≡_, refl, sym, _∙_}
+use mathlib.Core.Path.{_≡_, refl, sym, ap, _∙_}
 use native.Mathlib.Omega.{arith}
 use Rattle.extract.proofs.Good.{good-few, good-long}
-use Rattle.plan.specs.Plan.{planned, slotsOver}
+use Rattle.plan.specs.Plan.{planned, planOf, slotsOver}
+use Rattle.plan.proofs.Laws.{planned-of, plan-again}
 use Rattle.block.specs.Block.{tableIn}
 use Rattle.settled.specs.Settle.{settledIn}
 use Rattle.settled.proofs.Laws.{held-long, settled-long}
@@ -14,7 +15,7 @@ use Rattle.newplan.proofs.plan_for.Statement.{statement}
 use Rattle.newplan.proofs.plan_for.Tie as tie
 
 abbrev Inv-loop : tie.InvT-loop
-Inv-loop x n b first-at m p₀ i₀ p i = (i ≤ m) × (p .count ≤ 65 + i) × (slotsOf x (settledIn (tableIn b) first-at) ≡ slotsOver (placesFrom (65 + i) (drop i (settledIn (tableIn b) first-at))) (planned p))
+Inv-loop x n b first-at m p₀ i₀ p i = (i ≤ m) × (p .count ≤ 65 + i) × (slotsOf x (settledIn (tableIn b) first-at) ≡ slotsOver (placesFrom (65 + i) (drop i (settledIn (tableIn b) first-at))) (planned p)) × (p ≡ planOf (planned p))
 
 abbrev μ-loop : tie.MeasureT-loop
 μ-loop x n b first-at m p₀ i₀ p i = m - i
@@ -30,14 +31,14 @@ old-requires c κs =
 lay-requires : tie.Need-lay-requires Inv-loop μ-loop
 lay-requires c κs =
     let s = c .before .before .before in
-    omega (arith, good-few (s .args .x .now) (s .pre .1), s .pre .0, c .old .ensures .1)
+    (omega (arith, good-few (s .args .x .now) (s .pre .1), s .pre .0, c .old .ensures .1), plan-again (c .old .result) _ (c .old .ensures .0))
 
 loop-holds : tie.Need-loop-holds Inv-loop μ-loop
 loop-holds c =
     let s = c .before .before .before .before in
     let a = s .args in
     let k = good-few (a .x .now) (s .pre .1) in
-    (search needs, omega (arith, c .lay .ensures .1, c .before .old .ensures .1, s .pre .0), plan-start (a .x .now) (settledIn (tableIn (a .b .now)) (a .first-at)) (a .n) _ _ (s .pre .0) (c .before .old .ensures .0) (c .lay .ensures .0))
+    (search needs, omega (arith, c .lay .ensures .1, c .before .old .ensures .1, s .pre .0), plan-start (a .x .now) (settledIn (tableIn (a .b .now)) (a .first-at)) (a .n) _ _ (s .pre .0) (planned-of (c .before .old .result) _ (c .before .old .ensures .0)) (planned-of (c .lay .result) _ (c .lay .ensures .0)), plan-again (c .lay .result) _ (c .lay .ensures .0))
 
 place-requires : tie.Need-place-requires Inv-loop μ-loop
 place-requires c κs =
@@ -48,7 +49,7 @@ add-t12 : tie.Need-add-t12 Inv-loop μ-loop
 add-t12 c = search needs
 
 lay-requires-2 : tie.Need-lay-requires-2 Inv-loop μ-loop
-lay-requires-2 c κs = search needs
+lay-requires-2 c κs = (search needs, c .before .before .loop .inv .3)
 
 add-i : tie.Need-add-i Inv-loop μ-loop
 add-i c = search needs
@@ -62,7 +63,7 @@ loop-again c =
     let a = s .args in
     let l = c .before .before .before .loop in
     let ls = settledIn (tableIn (a .b .now)) (a .first-at) in
-    (search needs, omega (arith, c .lay2 .ensures .1, l .inv .1), l .inv .2 ∙ plan-turn ls (l .i) _ _ _ _ (omega (arith, long s, c .before .before .loop-test .taken)) (sym (c .before .place .ensures)) refl (c .lay2 .ensures .0))
+    (search needs, omega (arith, c .lay2 .ensures .1, l .inv .1), l .inv .2 ∙ plan-turn ls (l .i) _ _ _ _ (omega (arith, long s, c .before .before .loop-test .taken)) (sym (c .before .place .ensures)) refl (planned-of (c .lay2 .result) _ (c .lay2 .ensures .0)), plan-again (c .lay2 .result) _ (c .lay2 .ensures .0))
 
 returns : tie.Need-returns Inv-loop μ-loop
 returns c =
@@ -71,7 +72,7 @@ returns c =
     let l = c .before .loop in
     let i : l .i ≡ a .m = omega (arith, l .inv .0, c .loop-test .left) in
     let ls = settledIn (tableIn (a .b .now)) (a .first-at) in
-    (sym (l .inv .2 ∙ slots-end 65 (l .i) ls (planned (l .p)) (i ∙ sym (long s))), omega (arith, l .inv .1, s .pre .3, s .pre .2 .1))
+    (l .inv .3 ∙ ap planOf (sym (l .inv .2 ∙ slots-end 65 (l .i) ls (planned (l .p)) (i ∙ sym (long s)))), omega (arith, l .inv .1, s .pre .3, s .pre .2 .1))
 
 pub plan-for-spec : {M : Type 1} → statement M
 plan-for-spec =

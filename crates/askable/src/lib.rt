@@ -3,10 +3,7 @@ use entry::MBRPartitionEntry;
 use push::Geometry;
 use push::Request;
 ghost use mathlib.Core.Path.{_≡_};
-ghost use mathlib.Core.Option.{none, some};
-ghost use Rattle.base.specs.Pick.{pick};
-ghost use Rattle.base.specs.Checks.{first-fail};
-ghost use Rattle.careful.specs.Careful.{tooWide, askChecks};
+ghost use Rattle.careful.specs.Careful.{tooWide, askable};
 
 // A geometry that would be complete but for more than 63 sectors?
 fn is_too_wide(g: Geometry) -> bool
@@ -26,7 +23,7 @@ fn is_too_wide(g: Geometry) -> bool
 
 // May a careful push ask for this? Not for type 0, not for an extended type, not with a geometry that is too wide.
 pub fn is_askable(q: Request) -> bool
-    ensures { λ r. ⌜ first-fail (askChecks q) ≡ pick r none (some 23) ⌝ }
+    ensures { λ r. ⌜ r ≡ askable q ⌝ }
 {
     let mut p = MBRPartitionEntry::empty();
     p.sys = q.sys;

@@ -1,12 +1,12 @@
 -- Careful push and careful removal on a disk: refusals in their order, else the stores and the table after. Assumes nothing.
 use Prim.Native.Nat.{ℕ, _+_, _-_}
-use mathlib.Core.Bool.{Bool, not, _&&_}
+use mathlib.Core.Bool.{Bool, true, false, not, _&&_}
 use mathlib.Core.Option.{Option·getD}
 use mathlib.Core.List.{List, [], _∷_, _++_}
 use lib.Dec.{ltb, leb}
 use lib.ListN.{length}
 use Rattle.base.specs.Said.{Said, andThen}
-use Rattle.base.specs.Checks.{Check, _!_, answer}
+use Rattle.base.specs.Checks.{Check, _!_, checked, answer}
 use Rattle.entry.specs.declared.MBRPartitionEntry.{MBRPartitionEntry}
 use Rattle.entry.specs.Entry.{noEntry, used, extended}
 use Rattle.extract.specs.Disk.{Disk, Store}
@@ -44,6 +44,10 @@ tooWide g = ltb 0 (g .cylinders) && leb (g .cylinders) 1023 && ltb 0 (g .heads) 
 -- type 0, extended, or a complete geometry of more than 63 sectors: 23
 unfoldable pub askChecks : Request → List Check
 askChecks q = (23 ! used (q .sys)) ∷ (23 ! not (extended (q .sys))) ∷ (23 ! not (tooWide (q .geometry))) ∷ []
+
+-- does none of them fail
+abbrev pub askable : Request → Bool
+askable q = checked (askChecks q) (λ _. false) true
 
 -- where the last partition ends
 unfoldable pub lastEnd : List LogicalPartition → ℕ

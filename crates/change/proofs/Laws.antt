@@ -1,6 +1,6 @@
 -- What a careful change answers: refusals in their order, else its stores. Assumes nothing.
 use mathlib.Core.Path.{_≡_, refl, ap, sym, subst, _∙_}
-use mathlib.Core.Bool.{Bool, true, false}
+use mathlib.Core.Bool.{Bool, true, false, not}
 use mathlib.Core.Option.{Option, none, some}
 use mathlib.Core.List.{List, [], _∷_, _++_}
 use Prim.Native.Nat.{ℕ, _+_, _*_, _≤_}
@@ -14,7 +14,7 @@ use Rattle.base.specs.Said.{Said, gives, refuses, failure}
 use Rattle.base.specs.Checks.{Check, _!_, checked, answer, first-fail, AllHold}
 use Rattle.base.proofs.Checks.{checked-some, checked-none, checked-append, append-fails, append-holds, none-fails, hold-right}
 use Rattle.entry.specs.declared.MBRPartitionEntry.{MBRPartitionEntry}
-use Rattle.entry.specs.Entry.{endOf}
+use Rattle.entry.specs.Entry.{used, extended, endOf}
 use Rattle.table.specs.declared.LogicalPartition.{LogicalPartition}
 use Rattle.table.specs.declared.MBR.{MBR}
 use Rattle.chain.specs.Facts.{at}
@@ -24,7 +24,7 @@ use Rattle.push.specs.Push.{placeOf, sizeOf, fresh, newLogical, laterThan, roun
 use Rattle.push.specs.Address.{complete, addressed}
 use Rattle.push.proofs.Steps.{and-answer}
 use Rattle.sound.specs.Sound.{Contents, contentsOf, extendedIn, areaEnd, end, soundb}
-use Rattle.careful.specs.Careful.{contents, Change, roomNeeded, askChecks, lastEnd, spaceChecks, pushRefusals, pushChange, changing, carefulPushSays}
+use Rattle.careful.specs.Careful.{contents, Change, roomNeeded, tooWide, askChecks, askable, lastEnd, spaceChecks, pushRefusals, pushChange, changing, carefulPushSays}
 use Rattle.careful.specs.Output.{storesBytes, outAfter, countOf, counted}
 use Rattle.careful.proofs.Accepted.{place-hold}
 use Rattle.careful.proofs.Crate.{slots-front}
@@ -135,6 +135,23 @@ space-at : (q : Request) (t : Contents) (e : MBRPartitionEntry) → extendedIn t
     → spaceChecks q t ≡ (12 ! leb (placeOf q + sizeOf q) (endOf e)) ∷ (21 ! leb (end (lastIn (t .logicals))) (placeOf q)) ∷ []
 unfolding spaceChecks areaEnd
 space-at q t e x = rw (x, last-end (t .logicals))
+
+-- what is asked for is refused by 23, or by none of these checks
+ask-says : (q : Request) → first-fail (askChecks q) ≡ pick (askable q) none (some 23)
+unfolding askChecks
+ask-says q = go (used (q .sys)) (not (extended (q .sys))) (not (tooWide (q .geometry)))
+  where
+    go : (a b c : Bool) → _≡_ {A = Option ℕ} (pick a (pick b (pick c none (some 23)) (some 23)) (some 23)) (pick (pick a (pick b (pick c true false) false) false) none (some 23))
+    go true true true = refl
+    go true true false = refl
+    go true false c = refl
+    go false b c = refl
+
+pub ask-fails : (q : Request) → askable q ≡ false → first-fail (askChecks q) ≡ some 23
+ask-fails q e = ask-says q ∙ ap (λ (b : Bool). pick b none (some 23)) e
+
+pub ask-holds : (q : Request) → askable q ≡ true → first-fail (askChecks q) ≡ none
+ask-holds q e = ask-says q ∙ ap (λ (b : Bool). pick b none (some 23)) e
 
 -- 20, 23 and 8 of a careful push, and what is left
 module _ (room : ℕ) (q : Request) (t : Contents) where

@@ -1,11 +1,16 @@
-use mathlib.Core.Path.{_≡_, sym, _∙_}
+use mathlib.Core.Path.{_≡_, refl, sym, _∙_}
 use borrow.Author.Tests.{not-true, not-false}
-use mathlib.Core.Bool.{true, false}
+use mathlib.Core.Bool.{Bool, true, false, not}
+use Rattle.base.specs.Pick.{pick}
 use Rattle.entry.specs.Entry.{used, extended}
-use Rattle.careful.specs.Careful.{askChecks}
+use Rattle.careful.specs.Careful.{tooWide, askChecks}
 use borrow.Author.Needs.{needs}
 use Rattle.askable.proofs.is_askable.Statement.{statement}
 use Rattle.askable.proofs.is_askable.Tie as tie
+
+same : (b : Bool) → b ≡ pick b true false
+same true = refl
+same false = refl
 
 empty-requires : tie.Need-empty-requires
 empty-requires c κs = search needs
@@ -37,7 +42,7 @@ unfolding askChecks
 returns-3 c =
     let u : used (c .before .before .before .before .before .before .before .args .q .sys) ≡ true = sym (c .before .before .before .before .before .is-used .ensures) ∙ not-false _ (c .before .before .before .before .if1 .left) in
     let x : extended (c .before .before .before .before .before .before .before .args .q .sys) ≡ false = sym (c .before .before .before .is-extended .ensures) ∙ c .before .before .if2 .left in
-    rw (u, x, c .is-too-wide .ensures)
+    rw (u, x, c .is-too-wide .ensures) (same (not (tooWide (c .before .before .before .before .before .before .before .args .q .geometry))))
 
 pub is-askable-spec : {M : Type 1} → statement M
 is-askable-spec =

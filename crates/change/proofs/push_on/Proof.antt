@@ -2,7 +2,6 @@ use mathlib.Core.Path.{_≡_, sym, ap, _∙_}
 use native.Mathlib.Omega.{arith}
 use mathlib.Core.Bool.{true}
 use mathlib.Core.Option.{none, some}
-use Rattle.base.specs.Pick.{pick}
 use Rattle.base.specs.Checks.{first-fail}
 use Rattle.mbr.specs.Mbr.{found}
 use borrow.Author.Tests.{not-true, not-false}
@@ -12,7 +11,7 @@ use Rattle.table.specs.Table.{logicals}
 use Rattle.sound.specs.Sound.{contentsOf, soundb}
 use Rattle.careful.specs.Careful.{askChecks, pushRefusals, pushChange}
 use Rattle.pushwrite.proofs.Laws.{tells-refused}
-use Rattle.change.proofs.Laws.{push-20, push-23, push-8, push-told}
+use Rattle.change.proofs.Laws.{ask-fails, ask-holds, push-20, push-23, push-8, push-told}
 use borrow.Author.Needs.{needs}
 use Rattle.change.proofs.push_on.Statement.{statement}
 use Rattle.change.proofs.push_on.Tie as tie
@@ -40,7 +39,7 @@ returns-2 c =
     let cs = pushRefusals (length o) (a .q) t in
     let ss = pushChange (a .q) t .stores in
     let s : soundb t ≡ true = sym (c .before .before .before .is-sound .ensures) ∙ not-false _ (c .before .if1 .left) in
-    let k : first-fail (askChecks (a .q)) ≡ some 23 = c .before .before .is-askable .ensures ∙ ap (λ b. pick b none (some 23)) (not-true (c .before .before .is-askable .result) (c .if2 .taken)) in
+    let k : first-fail (askChecks (a .q)) ≡ some 23 = ask-fails (a .q) (sym (c .before .before .is-askable .ensures) ∙ not-true (c .before .before .is-askable .result) (c .if2 .taken)) in
     tells-refused o cs ss 23 (push-23 (length o) (a .q) t s k)
 
 last-of-requires : tie.Need-last-of-requires
@@ -66,7 +65,7 @@ returns-3 c =
     let cs = pushRefusals (length o) (a .q) t in
     let ss = pushChange (a .q) t .stores in
     let s : soundb t ≡ true = sym (c .before .before .before .before .before .before .before .before .is-sound .ensures) ∙ not-false _ (c .before .before .before .before .before .before .if1 .left) in
-    let k : first-fail (askChecks (a .q)) ≡ none = c .before .before .before .before .before .before .before .is-askable .ensures ∙ ap (λ b. pick b none (some 23)) (not-false (c .before .before .before .before .before .before .before .is-askable .result) (c .before .before .before .before .before .if2 .left)) in
+    let k : first-fail (askChecks (a .q)) ≡ none = ask-holds (a .q) (sym (c .before .before .before .before .before .before .before .is-askable .ensures) ∙ not-false (c .before .before .before .before .before .before .before .is-askable .result) (c .before .before .before .before .before .if2 .left)) in
     let x = sym (c .before .before .get-extended-partition .ensures) ∙ ap found (c .enum-told .given .1) in
     tells-refused o cs ss 8 (push-8 (length o) (a .q) t s k x)
 
@@ -81,7 +80,7 @@ returns-4 c =
     let cs = pushRefusals (length o) (a .q) t in
     let ss = pushChange (a .q) t .stores in
     let s : soundb t ≡ true = sym (c .before .before .before .before .before .before .before .before .before .before .before .before .before .is-sound .ensures) ∙ not-false _ (c .before .before .before .before .before .before .before .before .before .before .before .if1 .left) in
-    let k : first-fail (askChecks (a .q)) ≡ none = c .before .before .before .before .before .before .before .before .before .before .before .before .is-askable .ensures ∙ ap (λ b. pick b none (some 23)) (not-false (c .before .before .before .before .before .before .before .before .before .before .before .before .is-askable .result) (c .before .before .before .before .before .before .before .before .before .before .if2 .left)) in
+    let k : first-fail (askChecks (a .q)) ≡ none = ask-holds (a .q) (sym (c .before .before .before .before .before .before .before .before .before .before .before .before .is-askable .ensures) ∙ not-false (c .before .before .before .before .before .before .before .before .before .before .before .before .is-askable .result) (c .before .before .before .before .before .before .before .before .before .before .if2 .left)) in
     let e = c .before .before .before .before .before .e .given .0 .0 in
     let x = sym (c .before .before .before .before .before .before .before .get-extended-partition .ensures) ∙ ap found (c .before .before .before .before .before .e .given .1) in
     let m : length (a .t .«logical_partitions») ≡ 24 = sym (length-map (a .t .«logical_partitions») _) ∙ c .before .before .before .before .before .before .before .before .before .before .before .before .before .before .before .good .0 .1 .1 .1 .1 .0 .1 .0 .1 in

@@ -9,7 +9,7 @@ use native.Mathlib.Omega.{arith}
 use native.Mathlib.Numerals.{add-one, sub-one}
 use native.Mathlib.Decide.{decLt}
 use lib.Dec.{eqb}
-use lib.ListN.{length, getD, drop, drop-of-length-le}
+use lib.ListN.{length, getD, set, drop, drop-of-length-le}
 use lib.Seq.{drop-cons}
 use borrow.Author.Tests.{eq-eqb, ne-eqb}
 use Rattle.base.specs.Pick.{pick}
@@ -19,7 +19,8 @@ use Rattle.entry.specs.declared.MBRPartitionEntry.{MBRPartitionEntry}
 use Rattle.entry.specs.Entry.{used}
 use Rattle.align.specs.declared.Aligned.{Aligned}
 use Rattle.align.specs.declared.Aligned.the-variants.{Align, Refused}
-use Rattle.align.specs.Align.{usedStarts, dividesAll, largest, lowerOf, lowest, divisorTo, alignment, alignedSaid, Largest}
+use Rattle.align.specs.declared.Starts.{Starts}
+use Rattle.align.specs.Align.{usedStarts, withStart, dividesAll, largest, lowerOf, lowest, divisorTo, alignment, alignedSaid, Largest}
 
 -- what an answer says determines it
 pub aligned-injective : (a b : Aligned) → alignedSaid a ≡ alignedSaid b → a ≡ b
@@ -37,6 +38,14 @@ starts-unused e h = rw (eq-eqb _ _ h)
 pub starts-used : (e : MBRPartitionEntry) → (e .sys ≡ 0 → ⊥) → usedStarts (e ∷ []) ≡ e .«starting_lba» ∷ []
 unfolding usedStarts
 starts-used e h = rw (ne-eqb _ _ h)
+
+pub with-unused : (s : Starts) (e : MBRPartitionEntry) → e .sys ≡ 0 → s ≡ withStart s e
+unfolding withStart
+with-unused s e h = rw (eq-eqb _ _ h)
+
+pub with-used : (s : Starts) (e : MBRPartitionEntry) → (e .sys ≡ 0 → ⊥) → record { at = set (s .at) (s .count) (e .«starting_lba»); count = s .count + 1 } ≡ withStart s e
+unfolding withStart
+with-used s e h = rw (ne-eqb _ _ h)
 
 pub starts-append : (es fs : List MBRPartitionEntry) → usedStarts (es ++ fs) ≡ usedStarts es ++ usedStarts fs
 unfolding usedStarts

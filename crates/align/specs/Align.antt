@@ -1,5 +1,5 @@
 -- Alignment: with no used start 2,048, else the largest divisor of all used starts from 1 to min(16,384, largest start); none: 7. Assumes nothing.
-use Prim.Native.Nat.{ℕ, zero, suc, _%_, _≤_, _<_, min, max}
+use Prim.Native.Nat.{ℕ, zero, suc, _+_, _%_, _≤_, _<_, min, max}
 use mathlib.Core.List.{List, [], _∷_}
 use mathlib.Core.Bool.{Bool, true, false, _&&_}
 use mathlib.Core.Option.{Option, none, some}
@@ -12,7 +12,7 @@ use Rattle.entry.specs.Entry.{used}
 use Rattle.align.specs.declared.Aligned.{Aligned}
 use Rattle.align.specs.declared.Aligned.the-variants.{Align, Refused}
 use Rattle.align.specs.declared.Starts.{Starts}
-use lib.ListN.{take}
+use lib.ListN.{take, set, replicate}
 use Rattle.table.specs.Table.{defaultAlign, greatestAlign}
 
 -- the starts of the used entries (rule A7)
@@ -53,6 +53,14 @@ alignedSaid (Refused k) = refuses k
 -- the starts collected so far
 abbrev pub startsIn : Starts → List ℕ
 startsIn s = take (s .count) (s .at)
+
+-- none yet
+abbrev pub noStarts : Starts
+noStarts = record { at = replicate 28 0; count = 0 }
+
+-- an entry's start in the next place, if it is used; every other place as it was
+unfoldable pub withStart : Starts → MBRPartitionEntry → Starts
+withStart s e = pick (used (e .sys)) (record { at = set (s .at) (s .count) (e .«starting_lba»); count = s .count + 1 }) s
 
 -- the lowest number above 0, where a search may begin; 0 if there is none
 unfoldable pub lowerOf : ℕ → ℕ → ℕ

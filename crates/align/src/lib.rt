@@ -5,7 +5,7 @@ ghost use mathlib.Core.Path.{_≡_};
 ghost use mathlib.Core.List.{_++_, [], _∷_};
 ghost use Prim.Native.Nat.{_+_, _≤_, _<_, min};
 ghost use lib.ListN.{length, take};
-ghost use Rattle.align.specs.Align.{usedStarts, dividesAll, lowerOf, lowest, alignment, alignedSaid, startsIn};
+ghost use Rattle.align.specs.Align.{usedStarts, dividesAll, lowerOf, lowest, alignment, alignedSaid, startsIn, noStarts, withStart};
 
 // An alignment, or a refusal's number.
 pub enum Aligned {
@@ -21,7 +21,7 @@ pub struct Starts {
 
 impl Starts {
     pub fn new() -> Starts
-        ensures { λ r. ⌜ (startsIn r ≡ []) × (r .count ≡ 0) ⌝ }
+        ensures { λ r. ⌜ (startsIn r ≡ []) × (r .count ≡ 0) × (r ≡ noStarts) ⌝ }
     {
         let none = [0u32; 28];
         Starts { at: none, count: 0 }
@@ -30,7 +30,7 @@ impl Starts {
     // With the entry's start, if it is used.
     pub fn with(self, e: MBRPartitionEntry) -> Starts
         requires { ⌜ self .count < 28 ⌝ }
-        ensures { λ r. ⌜ (startsIn r ≡ startsIn self ++ usedStarts (e ∷ [])) × (r .count ≤ self .count + 1) ⌝ }
+        ensures { λ r. ⌜ (startsIn r ≡ startsIn self ++ usedStarts (e ∷ [])) × (r .count ≤ self .count + 1) × (r ≡ withStart self e) ⌝ }
     {
         if e.sys == 0 {
             return self;

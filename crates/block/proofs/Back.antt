@@ -28,7 +28,8 @@ use Rattle.table.specs.declared.LogicalPartition.{LogicalPartition}
 use Rattle.table.specs.declared.MBR.{MBR}
 use Rattle.table.specs.Table.{most, noLogical}
 use Rattle.block.specs.Block.{part, chsPart, chsIn, entryPart, entryIn, sectorsPart, sectorsTag, sectorsIn, lastPart, lastTag, lastIn, slotFront, slotPart, slotOf, tagOf, codePart, entriesPart, headerPart, headerIn, frontPart, slotsPart, tagsPart, slotAt, tagAt, slotsIn, possible, tagged, blockBytes, tableIn, blockChecks}
-use Rattle.block.specs.Fits.{ChsFits, EntryFits, SectorsFit, LastFits, SlotFits, SlotsFit, HeaderFits, TableFits}
+use Rattle.mbr.specs.Fits.{ChsFits, EntryFits, HeaderFits}
+use Rattle.block.specs.Fits.{SectorsFit, LastFits, SlotFits, SlotsFit, TableFits}
 use Rattle.block.proofs.Laws.{length-front, length-slot, length-tags, part-at}
 
 -- an address from its four bytes, and an entry from its eighteen

@@ -19,7 +19,8 @@ use Rattle.table.specs.declared.MaybeSectors.the-variants.{Absent, Present}
 use Rattle.table.specs.declared.MaybeChs.{MaybeChs}
 use Rattle.table.specs.declared.MaybeChs.the-variants.{Absent as NoChs, Present as SomeChs}
 use Rattle.table.specs.declared.LogicalPartition.{LogicalPartition}
-use Rattle.block.specs.Fits.{EntryFits, SectorsFit, LastFits, SlotFits, SlotsFit, HeaderFits}
+use Rattle.mbr.specs.Fits.{EntryFits, HeaderFits}
+use Rattle.block.specs.Fits.{SectorsFit, LastFits, SlotFits, SlotsFit}
 
 -- what a value of a type is known by
 abbrev pub Known : (F : Field) → F .Value → List Val → Type 0

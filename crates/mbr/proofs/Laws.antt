@@ -14,7 +14,7 @@ use Rattle.base.proofs.Bytes.{byte-at, bytes-append, bytes-take, bytesAt-part, 
 use Rattle.base.proofs.Readings.{undone-injective, fromOption}
 use Rattle.base.proofs.Checks.{none-fails}
 use Rattle.entry.specs.declared.MBRPartitionEntry.{MBRPartitionEntry}
-use Rattle.entry.specs.Entry.{entryAt, entryBytes, flagOk, extended}
+use Rattle.entry.specs.Entry.{entryAt, entryBytes, flagOk, extended, EntryOk}
 use Rattle.entry.proofs.Laws.{entry-within, entry-bytes-back, entry-ok, entry-bytes}
 use Rattle.mbr.specs.declared.MBRHeader.{MBRHeader}
 use Rattle.mbr.specs.declared.Found.{Found}
@@ -96,8 +96,15 @@ same-header : (h : MBRHeader) {c d m g : List ℕ} {e₁ e₂ e₃ e₄ : MBRPar
     } ≡ h
 same-header h c d m e₁ e₂ e₃ e₄ g = rw (c, d, m, e₁, e₂, e₃, e₄, g)
 
--- the parts of written bytes
-module _ (h : MBRHeader) (o : MbrOk h) where
+-- an entry's 16 bytes stand in these bytes from an index on
+pub record Stands (s : List ℕ) (at : ℕ) (e : MBRPartitionEntry) : Type 0 where
+  pub before : List ℕ
+  pub behind : List ℕ
+  pub parts : s ≡ before ++ (entryBytes e ++ behind)
+  pub long : length before ≡ at
+
+-- the parts of written bytes: of their numbers nothing is asked
+module _ (h : MBRHeader) (lc : length (h .«bootstrap_code») ≡ 440) (ld : length (h .«disk_signature») ≡ 4) (lm : length (h .«copy_protected») ≡ 2) where
   abbrev code : List ℕ
   code = h .«bootstrap_code»
 
@@ -142,10 +149,10 @@ module _ (h : MBRHeader) (o : MbrOk h) where
   at-four = at-three ∙ sym (append-assoc (code ++ disk ++ mark ++ one ++ two ++ three) four signature)
 
   n₂ : length (code ++ disk) ≡ 444
-  n₂ = length-append code disk ∙ rw (o .code, o .disk)
+  n₂ = length-append code disk ∙ rw (lc, ld)
 
   n₃ : length (code ++ disk ++ mark) ≡ 446
-  n₃ = length-append (code ++ disk) mark ∙ rw (n₂, o .mark)
+  n₃ = length-append (code ++ disk) mark ∙ rw (n₂, lm)
 
   n₄ : length (code ++ disk ++ mark ++ one) ≡ 462
   n₄ = length-append (code ++ disk ++ mark) one ∙ rw n₃
@@ -159,28 +166,70 @@ module _ (h : MBRHeader) (o : MbrOk h) where
   n₇ : length (code ++ disk ++ mark ++ one ++ two ++ three ++ four) ≡ 510
   n₇ = length-append (code ++ disk ++ mark ++ one ++ two ++ three) four ∙ rw n₆
 
+  pub code-there : take 440 (mbrBytes h) ≡ code
+  code-there = ap (take 440) at-code ∙ take-at code _ 440 lc
+
+  pub disk-there : bytesAt (mbrBytes h) 440 4 ≡ disk
+  disk-there = part-within (mbrBytes h) code disk (mark ++ (one ++ (two ++ (three ++ (four ++ signature))))) 440 4 at-code lc ld
+
+  pub mark-there : bytesAt (mbrBytes h) 444 2 ≡ mark
+  mark-there = part-within (mbrBytes h) (code ++ disk) mark (one ++ (two ++ (three ++ (four ++ signature)))) 444 2 at-disk n₂ lm
+
+  pub one-there : Stands (mbrBytes h) 446 (h .«partition_1»)
+  one-there = record { before = code ++ disk ++ mark; behind = two ++ (three ++ (four ++ signature)); parts = at-mark; long = n₃ }
+
+  pub two-there : Stands (mbrBytes h) 462 (h .«partition_2»)
+  two-there = record { before = code ++ disk ++ mark ++ one; behind = three ++ (four ++ signature); parts = at-one; long = n₄ }
+
+  pub three-there : Stands (mbrBytes h) 478 (h .«partition_3»)
+  three-there = record { before = code ++ disk ++ mark ++ one ++ two; behind = four ++ signature; parts = at-two; long = n₅ }
+
+  pub four-there : Stands (mbrBytes h) 494 (h .«partition_4»)
+  four-there = record { before = code ++ disk ++ mark ++ one ++ two ++ three; behind = signature; parts = at-three; long = n₆ }
+
+  pub signature-there : bytesAt (mbrBytes h) 510 2 ≡ signature
+  signature-there = part-within (mbrBytes h) (code ++ disk ++ mark ++ one ++ two ++ three ++ four) signature [] 510 2 at-four n₇ refl
+
+  pub long-there : length (mbrBytes h) ≡ 512
+  long-there = rw at-four (length-append (code ++ disk ++ mark ++ one ++ two ++ three ++ four) signature ∙ rw n₇)
+
+-- an entry that 16 bytes can hold is read back from there
+read-there : (s : List ℕ) (at : ℕ) (e : MBRPartitionEntry) → Stands s at e → EntryOk e → entryAt s at ≡ e
+read-there s at e w k = entry-within s (w .before) (w .behind) at e (w .parts) (w .long) k
+
+module _ (h : MBRHeader) (o : MbrOk h) where
   -- what is written reads back equal
   pub mbr-back : mbrOf (mbrBytes h) ≡ h
   unfolding codeOf
   mbr-back =
-      let s : List ℕ = mbrBytes h in
-      let c : take 440 s ≡ code = ap (take 440) at-code ∙ take-at code _ 440 (o .code) in
-      let d : bytesAt s 440 4 ≡ disk = part-within s code disk (mark ++ (one ++ (two ++ (three ++ (four ++ signature))))) 440 4 at-code (o .code) (o .disk) in
-      let m : bytesAt s 444 2 ≡ mark = part-within s (code ++ disk) mark (one ++ (two ++ (three ++ (four ++ signature)))) 444 2 at-disk n₂ (o .mark) in
-      let e₁ : entryAt s 446 ≡ h .«partition_1» = entry-within s (code ++ disk ++ mark) (two ++ (three ++ (four ++ signature))) 446 (h .«partition_1») at-mark n₃ (o .one) in
-      let e₂ : entryAt s 462 ≡ h .«partition_2» = entry-within s (code ++ disk ++ mark ++ one) (three ++ (four ++ signature)) 462 (h .«partition_2») at-one n₄ (o .two) in
-      let e₃ : entryAt s 478 ≡ h .«partition_3» = entry-within s (code ++ disk ++ mark ++ one ++ two) (four ++ signature) 478 (h .«partition_3») at-two n₅ (o .three) in
-      let e₄ : entryAt s 494 ≡ h .«partition_4» = entry-within s (code ++ disk ++ mark ++ one ++ two ++ three) signature 494 (h .«partition_4») at-three n₆ (o .four) in
-      let g : bytesAt s 510 2 ≡ h .«boot_signature» = part-within s (code ++ disk ++ mark ++ one ++ two ++ three ++ four) signature [] 510 2 at-four n₇ refl ∙ sym (o .signed) in
-      same-header h c d m e₁ e₂ e₃ e₄ g
+      same-header h (code-there h (o .code) (o .disk) (o .mark)) (disk-there h (o .code) (o .disk) (o .mark)) (mark-there h (o .code) (o .disk) (o .mark))
+      (read-there _ _ _ (one-there h (o .code) (o .disk) (o .mark)) (o .one)) (read-there _ _ _ (two-there h (o .code) (o .disk) (o .mark)) (o .two))
+      (read-there _ _ _ (three-there h (o .code) (o .disk) (o .mark)) (o .three)) (read-there _ _ _ (four-there h (o .code) (o .disk) (o .mark)) (o .four))
+      (signature-there h (o .code) (o .disk) (o .mark) ∙ sym (o .signed))
 
   pub mbr-record : Record (mbrBytes h)
+  unfolding mbrBytes
   mbr-record =
-      rw at-code
-      (record {
-        long = rw (← at-code, at-four) (length-append (code ++ disk ++ mark ++ one ++ two ++ three ++ four) signature ∙ rw n₇);
-        bytes = bytes-append code (disk ++ (mark ++ (one ++ (two ++ (three ++ (four ++ signature)))))) (o .code-bytes) (bytes-append disk (mark ++ (one ++ (two ++ (three ++ (four ++ signature))))) (o .disk-bytes) (bytes-append mark (one ++ (two ++ (three ++ (four ++ signature)))) (o .mark-bytes) (bytes-append one (two ++ (three ++ (four ++ signature))) (entry-bytes (h .«partition_1») (o .one)) (bytes-append two (three ++ (four ++ signature)) (entry-bytes (h .«partition_2») (o .two)) (bytes-append three (four ++ signature) (entry-bytes (h .«partition_3») (o .three)) (bytes-append four signature (entry-bytes (h .«partition_4») (o .four)) (omega arith)))))));
-      })
+      let c = h .«bootstrap_code» in
+      let d = h .«disk_signature» in
+      let m = h .«copy_protected» in
+      let e₁ = entryBytes (h .«partition_1») in
+      let e₂ = entryBytes (h .«partition_2») in
+      let e₃ = entryBytes (h .«partition_3») in
+      let e₄ = entryBytes (h .«partition_4») in
+      record {
+        long = long-there h (o .code) (o .disk) (o .mark);
+        bytes =
+            bytes-append (c ++ d ++ m ++ e₁ ++ e₂ ++ e₃ ++ e₄) signature
+            (bytes-append (c ++ d ++ m ++ e₁ ++ e₂ ++ e₃) e₄
+            (bytes-append (c ++ d ++ m ++ e₁ ++ e₂) e₃
+            (bytes-append (c ++ d ++ m ++ e₁) e₂
+            (bytes-append (c ++ d ++ m) e₁ (bytes-append (c ++ d) m (bytes-append c d (o .code-bytes) (o .disk-bytes)) (o .mark-bytes)) (entry-bytes (h .«partition_1») (o .one)))
+            (entry-bytes (h .«partition_2») (o .two)))
+            (entry-bytes (h .«partition_3») (o .three)))
+            (entry-bytes (h .«partition_4») (o .four)))
+            (omega arith);
+      }
 
   -- and no check of reading fails on it
   pub mbr-reads : first-fail (headerChecks h) ≡ none → first-fail (lentChecks (mbrBytes h)) ≡ none

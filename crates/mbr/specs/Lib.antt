@@ -1,2 +1,3 @@
 pub mod Mbr
+pub mod Fits
 pub mod Uefi

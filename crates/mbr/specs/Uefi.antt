@@ -1,9 +1,10 @@
 -- The legacy MBR of the UEFI Specification, section 5.2.1: its fields, their places and byte order. Assumes nothing.
-use Prim.Native.Nat.{ℕ, _+_, _*_}
+use Prim.Native.Nat.{ℕ, _+_, _*_, _%_}
 use mathlib.Core.List.{List}
 use lib.ListN.{take}
 use Rattle.base.specs.Bytes.{Order, little, bytesAt, number}
-use Rattle.chs.specs.Chs.{chsBytes}
+use Rattle.chs.specs.declared.CHS.{CHS}
+use Rattle.chs.specs.Chs.{chs, chsBytes}
 use Rattle.entry.specs.declared.MBRPartitionEntry.{MBRPartitionEntry}
 use Rattle.mbr.specs.declared.MBRHeader.{MBRHeader}
 
@@ -79,12 +80,16 @@ fieldPlace Signature = place 510 2 plain
 unfoldable pub stands : Field → List ℕ → Value
 stands f r = valueOf (fieldPlace f .shape) (bytesAt r (fieldPlace f .offset) (fieldPlace f .size))
 
+-- writing drops higher bits: of an address three bytes hold the cylinder mod 1,024, the head, and the sector mod 64
+abbrev pub lowBits : CHS → CHS
+lowBits c = chs (c .cylinder % 1024) (c .head) (c .sector % 64)
+
 -- what our header holds for a field
 abbrev pub partHeld : Part → MBRPartitionEntry → Value
 partHeld BootIndicator e = num (e .boot)
-partHeld StartingCHS e = bytes (chsBytes (e .«first_chs»))
+partHeld StartingCHS e = bytes (chsBytes (lowBits (e .«first_chs»)))
 partHeld OSType e = num (e .sys)
-partHeld EndingCHS e = bytes (chsBytes (e .«last_chs»))
+partHeld EndingCHS e = bytes (chsBytes (lowBits (e .«last_chs»)))
 partHeld StartingLBA e = num (e .«starting_lba»)
 partHeld SizeInLBA e = num (e .sectors)
 

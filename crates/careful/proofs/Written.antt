@@ -27,7 +27,7 @@ use Rattle.extract.proofs.Disk.{sector-same, sector-other, size-stored}
 use Rattle.table.specs.declared.MaybeSectors.the-variants.{Present}
 use Rattle.table.specs.declared.MaybeChs.the-variants.{Present as SomeChs}
 use Rattle.table.specs.declared.LogicalPartition.{LogicalPartition}
-use Rattle.chain.specs.Chain.{view, Link, linkOf}
+use Rattle.chain.specs.Chain.{view, Link, linkOf, byLink}
 use Rattle.chain.specs.Facts.{Body, Next, stop, to, View, ebr, nextOf, bodyIn, viewed, seen, at, start, bodyOf, leads, Held}
 use Rattle.chain.proofs.View.{view→facts, view-inside, view-same, Seen, seen→view}
 use Rattle.links.specs.Links.{linkEntry, ebrFor, write}
@@ -119,7 +119,7 @@ next-ok e k = go (eqb (e .«starting_lba») 0) refl
     pos : (n : ℕ) → (n ≡ 0 → ⊥) → 0 < n
     pos n h = omega arith
 
-    go : (t : Bool) → eqb (e .«starting_lba») 0 ≡ t → NextOk (pick t stop (to (e .«starting_lba») (linkOf e)))
+    go : (t : Bool) → eqb (e .«starting_lba») 0 ≡ t → NextOk (byLink stop (λ r. to r (linkOf e)) (pick t none (some (e .«starting_lba»))))
     go true q = tt
     go false q = record {
       span = e .sectors;

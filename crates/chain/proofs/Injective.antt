@@ -1,34 +1,77 @@
--- What is said of an EBR, and the record that it stands in, determine the answer. Assumes nothing.
-use mathlib.Core.Path.{_≡_, refl, sym, _∙_}
+-- What an answer says determines it; of what is met at a sector, with the record that it stands in. Assumes nothing.
+use mathlib.Core.Path.{_≡_, refl, sym, ap, _∙_}
 use mathlib.Core.List.{List}
+use mathlib.Core.Option.{Option, none, some}
 use Prim.Native.Nat.{ℕ}
-use Rattle.base.specs.Said.{Said}
-use Rattle.base.proofs.Readings.{undone-injective-on, fromSaid}
+use Rattle.base.specs.Said.{Said, gives, refuses}
+use Rattle.base.proofs.Readings.{undone-injective, undone-injective-on, fromSaid, fromOption}
+use Rattle.ebr.specs.declared.EBRHeader.{EBRHeader}
 use Rattle.extract.specs.Extract.{Good}
 use Rattle.extract.proofs.Halves.{lba-unique}
+use Rattle.chain.specs.declared.Reached.{Reached}
+use Rattle.chain.specs.declared.Reached.the-variants as reached
+use Rattle.chain.specs.declared.Follows.{Follows}
+use Rattle.chain.specs.declared.Follows.the-variants as follow
 use Rattle.chain.specs.declared.Met.{Met}
-use Rattle.chain.specs.declared.Met.the-variants.{Shut, Ebr}
-use Rattle.chain.specs.Walk.{Ends, metSaid, MetAt}
+use Rattle.chain.specs.declared.Met.the-variants.{Shut, Absent, Ebr}
+use Rattle.chain.specs.Walk.{placeSaid, followsSaid, metSaid, lackSaid, HeadAt, MetAt}
 
--- the answer of record number i
-abbrev metFrom : ℕ → Said Ends → Met
-metFrom i = fromSaid (λ e. Ebr (record { number = i; start = e .part; link = record { 0 = e .link } })) Shut
-
--- it names record number i, if one
-abbrev Names : ℕ → Met → Type 0
-Names i (Shut k) = Unit {0}
-Names i (Ebr h) = i ≡ h .number
-
-named-injective : (i : ℕ) (m n : Met) → Names i m → Names i n → metSaid m ≡ metSaid n → m ≡ n
-named-injective i = undone-injective-on (Names i) metSaid (metFrom i) back
+pub reached-injective : (a b : Reached) → placeSaid a ≡ placeSaid b → a ≡ b
+reached-injective = undone-injective placeSaid (fromOption (λ n. reached.At (record { 0 = n })) reached.Beyond) back
   where
-    back : (m : Met) → Names i m → metFrom i (metSaid m) ≡ m
-    back (Shut k) e = refl
-    back (Ebr h) e = rw e
+    back : (a : Reached) → fromOption (λ n. reached.At (record { 0 = n })) reached.Beyond (placeSaid a) ≡ a
+    back reached.Beyond = refl
+    back (reached.At p) = refl
 
-pub met-injective : (x : List ℕ) → Good x → (a : ℕ) (m n : Met) → MetAt x a m → MetAt x a n → metSaid m ≡ metSaid n → m ≡ n
-met-injective x g a (Shut k) (Shut j) p q = named-injective 0 (Shut k) (Shut j) tt tt
-met-injective x g a (Shut k) (Ebr f) p q = named-injective (f .number) (Shut k) (Ebr f) tt refl
-met-injective x g a (Ebr h) (Shut k) p q = named-injective (h .number) (Ebr h) (Shut k) refl tt
-met-injective x g a (Ebr h) (Ebr f) p q =
-    named-injective (h .number) (Ebr h) (Ebr f) refl (lba-unique x g (h .number) (f .number) (p .inside) (q .inside) (p .at ∙ sym (q .at)))
+pub follows-injective : (a b : Follows) → followsSaid a ≡ followsSaid b → a ≡ b
+follows-injective = undone-injective followsSaid (fromSaid (fromOption (λ n. follow.Link (record { 0 = n })) follow.End) follow.Refused) back
+  where
+    back : (a : Follows) → fromSaid (fromOption (λ n. follow.Link (record { 0 = n })) follow.End) follow.Refused (followsSaid a) ≡ a
+    back follow.End = refl
+    back (follow.Link r) = refl
+    back (follow.Refused k) = refl
+
+-- both that is said of what is met
+record Told : Type 0 where
+  ebr : Said EBRHeader
+  lack : Option ℕ
+
+abbrev told : List ℕ → Met → Told
+told x m = record { ebr = metSaid x m; lack = lackSaid m }
+
+told-both : (x : List ℕ) (m n : Met) → metSaid x m ≡ metSaid x n → lackSaid m ≡ lackSaid n → told x m ≡ told x n
+told-both x m n e f = rw (← e, ← f)
+
+-- the answer that stands in record number i at sector a
+abbrev metFrom : ℕ → ℕ → Told → Met
+metFrom i a t =
+    fromSaid
+    (λ h. Ebr (record { number = i; at = record { 0 = a }; start = h .«partition_1» .«starting_lba»; link = record { 0 = h .«partition_2» .«starting_lba» } }))
+    (λ k. fromOption (λ b. Absent (record { 0 = b })) (Shut k) (t .lack))
+    (t .ebr)
+
+-- it names record number i at sector a, if one
+abbrev Names : List ℕ → ℕ → ℕ → Met → Type 0
+Names x i a (Shut k) = Unit {0}
+Names x i a (Absent b) = Unit {0}
+Names x i a (Ebr h) = (i ≡ h .number) × HeadAt x a h
+
+named-injective : (x : List ℕ) (i a : ℕ) (m n : Met) → Names x i a m → Names x i a n → told x m ≡ told x n → m ≡ n
+named-injective x i a = undone-injective-on (Names x i a) (told x) (metFrom i a) back
+  where
+    back : (m : Met) → Names x i a m → metFrom i a (told x m) ≡ m
+    back (Shut k) e = refl
+    back (Absent b) e = refl
+    back (Ebr h) e = rw (e .0, ← e .1 .at, ← e .1 .start, ← e .1 .link)
+
+pub met-injective : (x : List ℕ) → Good x → (a : ℕ) (m n : Met) → MetAt x a m → MetAt x a n → metSaid x m ≡ metSaid x n → lackSaid m ≡ lackSaid n → m ≡ n
+met-injective x g a (Shut k) (Shut j) p q e f = named-injective x 0 a (Shut k) (Shut j) tt tt (told-both x (Shut k) (Shut j) e f)
+met-injective x g a (Shut k) (Absent c) p q e f = named-injective x 0 a (Shut k) (Absent c) tt tt (told-both x (Shut k) (Absent c) e f)
+met-injective x g a (Shut k) (Ebr u) p q e f = named-injective x (u .number) a (Shut k) (Ebr u) tt (refl, q) (told-both x (Shut k) (Ebr u) e f)
+met-injective x g a (Absent b) (Shut j) p q e f = named-injective x 0 a (Absent b) (Shut j) tt tt (told-both x (Absent b) (Shut j) e f)
+met-injective x g a (Absent b) (Absent c) p q e f = named-injective x 0 a (Absent b) (Absent c) tt tt (told-both x (Absent b) (Absent c) e f)
+met-injective x g a (Absent b) (Ebr u) p q e f = named-injective x (u .number) a (Absent b) (Ebr u) tt (refl, q) (told-both x (Absent b) (Ebr u) e f)
+met-injective x g a (Ebr h) (Shut j) p q e f = named-injective x (h .number) a (Ebr h) (Shut j) (refl, p) tt (told-both x (Ebr h) (Shut j) e f)
+met-injective x g a (Ebr h) (Absent c) p q e f = named-injective x (h .number) a (Ebr h) (Absent c) (refl, p) tt (told-both x (Ebr h) (Absent c) e f)
+met-injective x g a (Ebr h) (Ebr u) p q e f =
+    named-injective x (h .number) a (Ebr h) (Ebr u) (refl, p) (lba-unique x g (h .number) (u .number) (p .inside) (q .inside) (p .listed ∙ sym (q .listed)), q) (told-both x (Ebr h) (Ebr u) e f)

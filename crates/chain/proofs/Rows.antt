@@ -1,24 +1,22 @@
 -- Reading a chain, and the row of facts that it amounts to: both directions. Assumes nothing.
 use mathlib.Core.Path.{_≡_, refl, ap, sym, _∙_}
 use mathlib.Core.Option.{Option, none, some}
-use mathlib.Core.Bool.{Bool, true, false}
 use mathlib.Core.List.{List, [], _∷_}
 use Prim.Native.Nat.{ℕ, zero, suc, _+_, _-_, _^_, _≤_, _<_}
 use native.Mathlib.Omega.{arith}
 use native.Mathlib.Nat.{add-zero}
-use lib.Dec.{eqb, ltb}
-use borrow.Author.Tests.{ltb-true, lt-ltb}
-use Rattle.base.specs.Pick.{pick}
 use Rattle.base.specs.Said.{Said, gives, refuses, andThen}
 use Rattle.base.specs.Row.{next}
 use Rattle.entry.specs.declared.MBRPartitionEntry.{MBRPartitionEntry}
 use Rattle.ebr.specs.declared.EBRHeader.{EBRHeader}
 use Rattle.table.specs.declared.LogicalPartition.{LogicalPartition}
 use Rattle.table.specs.Table.{most}
-use Rattle.chain.specs.Chain.{Link, firstLink, linkOf, startingAt, placed, join, follow, chain, forgiven, logicalsOf}
-use Rattle.chain.specs.Facts.{Body, Next, stop, to, View, bad, ebr, nextOf, viewed, saw, at, start, linkIn, bodyOf, leads, Held, Before, Plain, Rows, Empty, Holds}
+use Rattle.chain.specs.Chain.{Link, firstLink, linkOf, startingAt, placed, join, byLink, followsIn, chain, forgiven, logicalsOf}
+use Rattle.chain.specs.Facts.{Body, Next, stop, to, View, ebr, nextOf, bodyIn, viewed, saw, at, start, linkIn, bodyOf, leads, Held, Before, Plain, Rows, Empty, Holds}
+use Rattle.chain.proofs.Decision.{follows-none, follows-end, follows-to, follows→facts}
+use Rattle.chain.proofs.View.{Seen, seen→view, next-stop, next-to, next→stop, next→to}
 
--- the chain from X + rel on, over the sectors seen as EBRs
+-- a logical partition by what its EBR says of it
 unfoldable pub placedBy : ℕ → Link → Body → LogicalPartition
 placedBy a k b =
     record {
@@ -30,21 +28,6 @@ placedBy a k b =
       kept = b .kept;
     }
 
-unfoldable onView : View → (Body → Next → Said (List LogicalPartition)) → Said (List LogicalPartition)
-onView (bad k) g = refuses k
-onView (ebr b n) g = g b n
-
-unfoldable onNext : (ℕ → Link → Said (List LogicalPartition)) → ℕ → Next → Said (List LogicalPartition)
-onNext go rel stop = gives []
-onNext go rel (to r k) = pick (ltb rel r) (go r k) (refuses 5)
-
-unfoldable trail : (ℕ → View) → ℕ → ℕ → ℕ → Link → Said (List LogicalPartition)
-trail w X zero rel k = onView (w (X + rel)) (λ b n. refuses 6)
-trail w X (suc m) rel k =
-    onView (w (X + rel))
-    (λ b n. pick (ltb (b .part .«starting_lba» + (X + rel)) (2 ^ 32)) (join (placedBy (X + rel) k b) (onNext (trail w X m) rel n)) (refuses 7))
-
--- the laws by which it knows a logical partition
 placed-at : (a : ℕ) (k : Link) (b : Body) → at (placedBy a k b) ≡ a
 unfolding placedBy
 placed-at a k b = refl
@@ -63,7 +46,7 @@ body-placed a k b =
     let h : b .part .«starting_lba» + a - a ≡ b .part .«starting_lba» = omega arith in
     λ i. record { kept = b .kept; part = startingAt (h i) (b .part) }
 
-pub body-start : (l : LogicalPartition) → bodyOf l .part .«starting_lba» ≡ start l - at l
+body-start : (l : LogicalPartition) → bodyOf l .part .«starting_lba» ≡ start l - at l
 unfolding bodyOf
 body-start l = refl
 
@@ -80,63 +63,72 @@ placed-body l h =
       kept = l .kept;
     }
 
--- it is the chain of the definitions
-next-follow : (go : ℕ → Link → Said (List LogicalPartition)) (to-go : ℕ → Link → Said (List LogicalPartition)) (rel : ℕ) (link : MBRPartitionEntry)
-    → go (link .«starting_lba») (linkOf link) ≡ to-go (link .«starting_lba») (linkOf link) → follow go rel link ≡ onNext to-go rel (nextOf link)
-unfolding follow onNext nextOf
-next-follow go to-go rel link e = by (eqb (link .«starting_lba») 0)
-  where
-    by : (t : Bool) → pick t (gives []) (pick (ltb rel (link .«starting_lba»)) (go (link .«starting_lba») (linkOf link)) (refuses 5))
-        ≡ onNext to-go rel (pick t stop (to (link .«starting_lba») (linkOf link)))
-    by true = refl
-    by false = rw e
+pub placed-by : (a : ℕ) (k : Link) (h : EBRHeader) → placed a k h ≡ placedBy a k (bodyIn h)
+unfolding placed placedBy
+placed-by a k h = refl
 
-chain-trail : (v : ℕ → Said EBRHeader) (X m rel : ℕ) (k : Link) → andThen (v (X + rel)) (chain v X m rel k) ≡ trail (saw v) X m rel k
-unfolding chain trail onView placed placedBy
-chain-trail v X zero rel k = go (v (X + rel))
-  where
-    go : (s : Said EBRHeader) → andThen s (λ h. refuses 6) ≡ onView (viewed s) (λ b n. refuses 6)
-    go (gives h) = refl
-    go (refuses j) = refl
-chain-trail v X (suc m) rel k = go (chain-trail v X m) (v (X + rel))
-  where
-    go : ((r : ℕ) (j : Link) → andThen (v (X + r)) (chain v X m r j) ≡ trail (saw v) X m r j) → (s : Said EBRHeader)
-        → andThen s (λ h. pick (ltb (h .«partition_1» .«starting_lba» + (X + rel)) (2 ^ 32))
-        (join (placed (X + rel) k h) (follow (λ r j. andThen (v (X + r)) (chain v X m r j)) rel (h .«partition_2»))) (refuses 7))
-        ≡ onView (viewed s)
-        (λ b n. pick (ltb (b .part .«starting_lba» + (X + rel)) (2 ^ 32)) (join (placedBy (X + rel) k b) (onNext (trail (saw v) X m) rel n)) (refuses 7))
-    go ih (refuses j) = refl
-    go ih (gives h) =
-        let e = next-follow (λ r j. andThen (v (X + r)) (chain v X m r j)) (trail (saw v) X m) rel (h .«partition_2»)
-        (ih (h .«partition_2» .«starting_lba») (linkOf (h .«partition_2»))) in
-        ap (λ f. pick (ltb (h .«partition_1» .«starting_lba» + (X + rel)) (2 ^ 32)) (join (placed (X + rel) k h) f) (refuses 7)) e
+-- one step of the chain
+module _ (v : ℕ → Said EBRHeader) (X m rel : ℕ) (k : Link) (h : EBRHeader) where
+  pub chain-stop : followsIn (suc m) X rel h ≡ gives none → chain v X (suc m) rel k h ≡ gives (placed (X + rel) k h ∷ [])
+  unfolding chain
+  chain-stop q = rw q
+
+  pub chain-on : (r : ℕ) → followsIn (suc m) X rel h ≡ gives (some r)
+      → chain v X (suc m) rel k h ≡ join (placed (X + rel) k h) (andThen (v (X + r)) (chain v X m r (linkOf (h .«partition_2»))))
+  unfolding chain
+  chain-on r q = rw q
 
 -- a row of facts is read as that chain
-trail-step : (w : ℕ → View) (X m rel : ℕ) (k : Link) (l : LogicalPartition) (n : Next) → at l ≡ X + rel → linkIn l ≡ k → w (at l) ≡ ebr (bodyOf l) n
-    → at l ≤ start l → start l < 2 ^ 32 → trail w X (suc m) rel k ≡ join l (onNext (trail w X m) rel n)
-unfolding trail onView
-trail-step w X m rel k l n e ek hw ha hf =
-    let q : bodyOf l .part .«starting_lba» + at l < 2 ^ 32 = rw body-start (omega arith) in
-    rw (← e, hw, lt-ltb (bodyOf l .part .«starting_lba» + at l) (2 ^ 32) q, ← ek, placed-body l ha)
+module _ (v : ℕ → Said EBRHeader) (X m rel : ℕ) (k : Link) (l : LogicalPartition) (n : Next) (s : Seen (v (at l)) (bodyOf l) n) (e : at l ≡ X + rel) (ek : linkIn l ≡ k) (ha : at l ≤ start l) where
+  held-here : v (X + rel) ≡ gives (s .header)
+  held-here = ap v (sym e) ∙ s .is
 
-row→trail : (w : ℕ → View) (X m rel : ℕ) (k : Link) (ls : List LogicalPartition) → Rows w X m rel k ls → trail w X m rel k ≡ gives ls
-unfolding onNext
-row→trail w X m rel k [] r = absurd (r .begins)
-row→trail w X zero rel k (l ∷ ls) r = absurd (omega (arith, r .few))
-row→trail w X (suc m) rel k (l ∷ []) r = trail-step w X m rel k l stop (r .begins .0) (r .begins .1) (r .held .0) (r .plain .0 .after) (r .plain .0 .fits)
-row→trail w X (suc m) rel k (l ∷ j ∷ js) r =
-    let q : rel < at j - X = omega (arith, r .plain .0 .before, r .begins .0) in
-    let e : at j ≡ X + (at j - X) = omega (arith, r .plain .1 .0 .inside) in
-    let f : trail w X m (at j - X) (linkIn j) ≡ gives (j ∷ js) =
-    row→trail w X m (at j - X) (linkIn j) (j ∷ js) (record { begins = (e, refl); held = r .held .1; plain = r .plain .1; few = omega (arith, r .few) }) in
-    trail-step w X m rel k l (to (at j - X) (linkIn j)) (r .begins .0) (r .begins .1) (r .held .0) (r .plain .0 .after) (r .plain .0 .fits)
-    ∙ rw (lt-ltb rel (at j - X) q, f)
+  placed-held : placed (X + rel) k (s .header) ≡ l
+  placed-held =
+      placed-by (X + rel) k (s .header)
+      ∙ ap (placedBy (X + rel) k) (s .body)
+      ∙ (λ i. placedBy (sym e i) (sym ek i) (bodyOf l))
+      ∙ placed-body l ha
+
+  fits-held : start l < 2 ^ 32 → s .header .«partition_1» .«starting_lba» + (X + rel) < 2 ^ 32
+  fits-held f =
+      let b : s .header .«partition_1» .«starting_lba» ≡ start l - at l = ap (λ (y : Body). y .part .«starting_lba») (s .body) ∙ body-start l in
+      omega arith
+
+pub row→chain : (v : ℕ → Said EBRHeader) (X m rel : ℕ) (k : Link) (ls : List LogicalPartition) → Rows (saw v) X m rel k ls
+    → andThen (v (X + rel)) (chain v X m rel k) ≡ gives ls
+row→chain v X m rel k [] r = absurd (r .begins)
+row→chain v X zero rel k (l ∷ ls) r = absurd (omega (arith, r .few))
+row→chain v X (suc m) rel k (l ∷ []) r =
+    let s = seen→view (v (at l)) (bodyOf l) stop (r .held .0) in
+    let h = s .header in
+    let e = r .begins .0 in
+    let a = r .plain .0 .after in
+    let f = fits-held v X m rel k l stop s e (r .begins .1) a (r .plain .0 .fits) in
+    let z : h .«partition_2» .«starting_lba» ≡ 0 = next→stop (h .«partition_2») (s .leads) in
+    let q = follows-end (suc m) (X + rel) rel (h .«partition_1» .«starting_lba») (h .«partition_2» .«starting_lba») (omega arith) f z in
+    rw (held-here v X m rel k l stop s e (r .begins .1) a) (chain-stop v X m rel k h (sym q) ∙ rw (placed-held v X m rel k l stop s e (r .begins .1) a))
+row→chain v X (suc m) rel k (l ∷ j ∷ js) r =
+    let n : Next = to (at j - X) (linkIn j) in
+    let s = seen→view (v (at l)) (bodyOf l) n (r .held .0) in
+    let h = s .header in
+    let e = r .begins .0 in
+    let a = r .plain .0 .after in
+    let f = fits-held v X m rel k l n s e (r .begins .1) a (r .plain .0 .fits) in
+    let z = next→to (h .«partition_2») (at j - X) (linkIn j) (s .leads) in
+    let u : rel < at j - X = omega (arith, r .plain .0 .before, r .begins .0) in
+    let q = follows-to (suc m) (X + rel) rel (h .«partition_1» .«starting_lba») (h .«partition_2» .«starting_lba») (omega arith) f (λ y. omega (arith, z .0)) (omega (arith, z .0)) in
+    let i : at j ≡ X + (at j - X) = omega (arith, r .plain .1 .0 .inside) in
+    let t : andThen (v (X + (at j - X))) (chain v X m (at j - X) (linkIn j)) ≡ gives (j ∷ js) =
+    row→chain v X m (at j - X) (linkIn j) (j ∷ js) (record { begins = (i, refl); held = r .held .1; plain = r .plain .1; few = omega (arith, r .few) }) in
+    rw (held-here v X m rel k l n s e (r .begins .1) a)
+    (chain-on v X m rel k h (at j - X) (sym q ∙ ap (λ (y : ℕ). gives (some y)) (z .0)) ∙ rw (z .1, t, placed-held v X m rel k l n s e (r .begins .1) a))
 
 -- the other way
 no-chain : {A : Type 0} (k : ℕ) (ls : List LogicalPartition) → refuses k ≡ gives ls → A
 no-chain k ls c = let z : _≡_ {A = ℕ} 0 1 = cc in absurd (omega arith)
 
-module _ (w : ℕ → View) (X m rel : ℕ) (k : Link) (b : Body) (t : ltb (b .part .«starting_lba» + (X + rel)) (2 ^ 32) ≡ true) where
+module _ (w : ℕ → View) (X m rel : ℕ) (k : Link) (b : Body) (t : b .part .«starting_lba» + (X + rel) < 2 ^ 32) where
   here : LogicalPartition
   here = placedBy (X + rel) k b
 
@@ -145,19 +137,19 @@ module _ (w : ℕ → View) (X m rel : ℕ) (k : Link) (b : Body) (t : ltb (b .p
   plain-here n h = record {
     inside = rw placed-at (omega arith);
     after = rw (placed-at, placed-start) (omega arith);
-    fits = rw placed-start (ltb-true (b .part .«starting_lba» + (X + rel)) (2 ^ 32) t);
+    fits = rw placed-start t;
     before = h;
   }
 
-  held-here : (n : Next) (o : Option LogicalPartition) → w (X + rel) ≡ ebr b n → n ≡ leads X o → Held w X here o
+  here-held : (n : Next) (o : Option LogicalPartition) → w (X + rel) ≡ ebr b n → n ≡ leads X o → Held w X here o
   unfolding here
-  held-here n o e h = rw (body-placed, placed-at, ← h) e
+  here-held n o e h = rw (body-placed, placed-at, ← h) e
 
   rows-stop : w (X + rel) ≡ ebr b stop → Rows w X (suc m) rel k (here ∷ [])
   unfolding here
   rows-stop e = record {
     begins = (placed-at (X + rel) k b, placed-link (X + rel) k b);
-    held = (held-here stop none e refl, tt);
+    held = (here-held stop none e refl, tt);
     plain = (plain-here none tt, tt);
     few = omega arith;
   }
@@ -169,58 +161,64 @@ module _ (w : ℕ → View) (X m rel : ℕ) (k : Link) (b : Body) (t : ltb (b .p
       let q : r ≡ at o - X = omega (arith, c .begins .0) in
       record {
         begins = (placed-at (X + rel) k b, placed-link (X + rel) k b);
-        held = (held-here (to r j) (some o) e (rw (← q, c .begins .1)), c .held);
+        held = (here-held (to r j) (some o) e (rw (← q, c .begins .1)), c .held);
         plain = (plain-here (some o) (rw placed-at (omega (arith, c .begins .0))), c .plain);
         few = omega (arith, c .few);
       }
 
-  -- reading past this EBR, taken apart
-  module _ (ls : List LogicalPartition) (ih : (r : ℕ) (j : Link) (ms : List LogicalPartition) → trail w X m r j ≡ gives ms → Rows w X m r j ms) where
-    after-link : (r : ℕ) (j : Link) (ms : List LogicalPartition) → w (X + rel) ≡ ebr b (to r j) → (d : Bool) → ltb rel r ≡ d
-        → pick d (trail w X m r j) (refuses 5) ≡ gives ms → Rows w X (suc m) rel k (here ∷ ms)
-    after-link r j ms e false q h = no-chain 5 ms h
-    after-link r j ms e true q h = rows-more r j ms e (ltb-true rel r q) (ih r j ms h)
+-- reading past an EBR, taken apart
+module _ (v : ℕ → Said EBRHeader) (X m rel : ℕ) (k : Link) (h : EBRHeader) (ls : List LogicalPartition) (e : v (X + rel) ≡ gives h)
+    (ih : (r : ℕ) (j : Link) (ms : List LogicalPartition) → andThen (v (X + r)) (chain v X m r j) ≡ gives ms → Rows (saw v) X m r j ms) where
+  abbrev p : ℕ
+  p = h .«partition_1» .«starting_lba»
 
-    after-here : (n : Next) → w (X + rel) ≡ ebr b n → (r : Said (List LogicalPartition)) → onNext (trail w X m) rel n ≡ r → join here r ≡ gives ls → Rows w X (suc m) rel k ls
-    unfolding onNext
-    after-here n e (refuses j) f h = no-chain j ls h
-    after-here stop e (gives ms) f h =
-        let q : here ∷ [] ≡ ls = cc in
-        rw q at (rows-stop e)
-    after-here (to r j) e (gives ms) f h =
-        let q : here ∷ ms ≡ ls = cc in
-        rw q at (after-link r j ms e (ltb rel r) refl f)
+  abbrev t : ℕ
+  t = h .«partition_2» .«starting_lba»
 
-trail→row : (w : ℕ → View) (X m rel : ℕ) (k : Link) (ls : List LogicalPartition) → trail w X m rel k ≡ gives ls → Rows w X m rel k ls
-unfolding trail onView here
-trail→row w X zero rel k ls c = go (w (X + rel)) c
-  where
-    go : (s : View) → onView s (λ b n. refuses 6) ≡ gives ls → Rows w X zero rel k ls
-    go (bad j) h = no-chain j ls h
-    go (ebr b n) h = no-chain 6 ls h
-trail→row w X (suc m) rel k ls c = look (trail→row w X m) (w (X + rel)) refl c
-  where
-    test : ((r : ℕ) (j : Link) (ms : List LogicalPartition) → trail w X m r j ≡ gives ms → Rows w X m r j ms)
-        → (b : Body) (n : Next) → w (X + rel) ≡ ebr b n → (t : Bool) → ltb (b .part .«starting_lba» + (X + rel)) (2 ^ 32) ≡ t
-        → pick t (join (placedBy (X + rel) k b) (onNext (trail w X m) rel n)) (refuses 7) ≡ gives ls → Rows w X (suc m) rel k ls
-    test ih b n e false q h = no-chain 7 ls h
-    test ih b n e true q h = after-here w X m rel k b q ls ih n e (onNext (trail w X m) rel n) refl h
+  sees : (n : Next) → nextOf (h .«partition_2») ≡ n → saw v (X + rel) ≡ ebr (bodyIn h) n
+  sees n q = ap viewed e ∙ ap (ebr (bodyIn h)) q
 
-    look : ((r : ℕ) (j : Link) (ms : List LogicalPartition) → trail w X m r j ≡ gives ms → Rows w X m r j ms)
-        → (s : View) → w (X + rel) ≡ s
-        → onView s (λ b n. pick (ltb (b .part .«starting_lba» + (X + rel)) (2 ^ 32)) (join (placedBy (X + rel) k b) (onNext (trail w X m) rel n)) (refuses 7)) ≡ gives ls
-        → Rows w X (suc m) rel k ls
-    look ih (bad j) e h = no-chain j ls h
-    look ih (ebr b n) e h = test ih b n e (ltb (b .part .«starting_lba» + (X + rel)) (2 ^ 32)) refl h
+  after-stop : followsIn (suc m) X rel h ≡ gives none → gives (placed (X + rel) k h ∷ []) ≡ gives ls → Rows (saw v) X (suc m) rel k ls
+  unfolding here
+  after-stop q c =
+      let f = follows→facts (suc m) (X + rel) rel p t none q in
+      let z : placed (X + rel) k h ∷ [] ≡ ls = cc in
+      rw (← z, placed-by (X + rel) k h) (rows-stop (saw v) X m rel k (bodyIn h) (f .1) (sees stop (next-stop (h .«partition_2») (f .2))))
 
--- the chain of the definitions, both ways
-pub row→chain : (v : ℕ → Said EBRHeader) (X m rel : ℕ) (k : Link) (ls : List LogicalPartition) → Rows (saw v) X m rel k ls
-    → andThen (v (X + rel)) (chain v X m rel k) ≡ gives ls
-row→chain v X m rel k ls r = chain-trail v X m rel k ∙ row→trail (saw v) X m rel k ls r
+  after-on : (r : ℕ) → followsIn (suc m) X rel h ≡ gives (some r) → (s : Said (List LogicalPartition)) → andThen (v (X + r)) (chain v X m r (linkOf (h .«partition_2»))) ≡ s
+      → join (placed (X + rel) k h) s ≡ gives ls → Rows (saw v) X (suc m) rel k ls
+  unfolding here
+  after-on r q (refuses j) y c = no-chain j ls c
+  after-on r q (gives ms) y c =
+      let f = follows→facts (suc m) (X + rel) rel p t (some r) q in
+      let z : placed (X + rel) k h ∷ ms ≡ ls = cc in
+      let o : nextOf (h .«partition_2») ≡ to r (linkOf (h .«partition_2»)) = next-to (h .«partition_2») (omega (arith, f .2 .0, f .2 .1)) ∙ ap (λ (y : ℕ). to y (linkOf (h .«partition_2»))) (f .2 .0) in
+      rw (← z, placed-by (X + rel) k h)
+      (rows-more (saw v) X m rel k (bodyIn h) (f .1) r (linkOf (h .«partition_2»)) ms (sees (to r (linkOf (h .«partition_2»))) o) (f .2 .1) (ih r (linkOf (h .«partition_2»)) ms y))
+
+  after : (s : Said (Option ℕ)) → followsIn (suc m) X rel h ≡ s
+      → andThen s (λ o. join (placed (X + rel) k h) (byLink (gives []) (λ r. andThen (v (X + r)) (chain v X m r (linkOf (h .«partition_2»)))) o)) ≡ gives ls
+      → Rows (saw v) X (suc m) rel k ls
+  after (refuses j) q c = no-chain j ls c
+  after (gives none) q c = after-stop q c
+  after (gives (some r)) q c = after-on r q (andThen (v (X + r)) (chain v X m r (linkOf (h .«partition_2»)))) refl c
 
 pub chain→row : (v : ℕ → Said EBRHeader) (X m rel : ℕ) (k : Link) (ls : List LogicalPartition) → andThen (v (X + rel)) (chain v X m rel k) ≡ gives ls
     → Rows (saw v) X m rel k ls
-chain→row v X m rel k ls h = trail→row (saw v) X m rel k ls (sym (chain-trail v X m rel k) ∙ h)
+unfolding chain
+chain→row v X zero rel k ls c = go (v (X + rel)) c
+  where
+    go : (s : Said EBRHeader) → andThen s (λ h. andThen (followsIn zero X rel h) (λ o. gives [])) ≡ gives ls → Rows (saw v) X zero rel k ls
+    go (refuses j) c = no-chain j ls c
+    go (gives h) c = no-chain 6 ls (rw (← (follows-none zero (X + rel) rel (h .«partition_1» .«starting_lba») (h .«partition_2» .«starting_lba») refl)) at c)
+chain→row v X (suc m) rel k ls c = go (chain→row v X m) (v (X + rel)) refl c
+  where
+    go : ((r : ℕ) (j : Link) (ms : List LogicalPartition) → andThen (v (X + r)) (chain v X m r j) ≡ gives ms → Rows (saw v) X m r j ms)
+        → (s : Said EBRHeader) → v (X + rel) ≡ s
+        → andThen s (λ h. andThen (followsIn (suc m) X rel h) (λ o. join (placed (X + rel) k h) (byLink (gives []) (λ r. andThen (v (X + r)) (chain v X m r (linkOf (h .«partition_2»)))) o))) ≡ gives ls
+        → Rows (saw v) X (suc m) rel k ls
+    go ih (refuses j) e c = no-chain j ls c
+    go ih (gives h) e c = after v X m rel k h ls e ih (followsIn (suc m) X rel h) refl c
 
 -- the logical partitions of an extended entry, both ways
 first-held : (s : Said EBRHeader) (b : Body) (n : Next) (f : EBRHeader → Said (List LogicalPartition)) → viewed s ≡ ebr b n → forgiven s f ≡ andThen s f

@@ -2,15 +2,12 @@
 use mathlib.Core.Path.{_≡_, refl, sym, ap, subst, _∙_}
 use mathlib.Core.List.{List, [], _∷_, _++_, map}
 use mathlib.Core.Option.{Option, none, some}
-use mathlib.Core.Bool.{Bool, true, false}
 use Prim.Native.Nat.{ℕ, zero, suc, _+_, _-_, _≤_, _<_}
 use native.Mathlib.Omega.{arith}
 use native.Mathlib.Numerals.{add-one, sub-one}
-use lib.Dec.{eqb}
 use lib.ListN.{length, getD, set, take, replicate, length-map}
 use lib.Seq.{take-suc, set-append-seam, append-snoc, length-take-le}
 use borrow.Author.Tests.{ne-eqb}
-use Rattle.base.specs.Pick.{pick}
 use Rattle.base.specs.Said.{Said, gives, refuses}
 use Rattle.base.specs.Row.{next, Row}
 use Rattle.entry.specs.declared.MBRPartitionEntry.{MBRPartitionEntry}
@@ -21,12 +18,12 @@ use Rattle.extract.proofs.Disk.{sector-of}
 use Rattle.extract.proofs.Halves.{found-is}
 use Rattle.table.specs.declared.LogicalPartition.{LogicalPartition}
 use Rattle.table.specs.Table.{most, noLogical, emptySlot, slots, parts}
-use Rattle.chain.specs.Chain.{view, Link, firstLink, linkOf, placed, logicalsOf}
-use Rattle.chain.specs.Facts.{stop, to, View, nextOf, bodyIn, bodyOf, leads, linkIn, Held, Plain, Holds, at, seen}
+use Rattle.chain.specs.Chain.{view, Link, firstLink, placed, logicalsOf}
+use Rattle.chain.specs.Facts.{View, nextOf, bodyIn, bodyOf, leads, linkIn, Held, Plain, Holds, at, seen}
 use Rattle.chain.specs.Walk.{placesOf, counted, Fit, Fits, Noted, NotedAll, firstOf, partIn, lifted, linkAt, rebuilt, linkTo, Logicals, told}
 use Rattle.chain.specs.declared.Counted.{Counted}
-use Rattle.chain.proofs.View.{seen→view, view→facts}
-use Rattle.chain.proofs.Rows.{placedBy, placed-body, logicals→holds}
+use Rattle.chain.proofs.View.{seen→view, view→facts, next→to}
+use Rattle.chain.proofs.Rows.{placedBy, placed-by, placed-body, logicals→holds}
 
 -- number j of the partitions that are made
 pub rebuilt-long : (x : List ℕ) (k : Link) (is : List ℕ) → length (rebuilt x k is) ≡ length is
@@ -87,18 +84,6 @@ noted-fits x (i ∷ is) (a ∷ ps) n zero h = n .0
 noted-fits x (i ∷ is) (a ∷ ps) n (suc j) h = noted-fits x is ps (n .2) j (omega arith)
 
 -- a logical partition that the disk holds is made of its record
-placed-by : (a : ℕ) (k : Link) (h : EBRHeader) → placed a k h ≡ placedBy a k (bodyIn h)
-unfolding placed placedBy
-placed-by a k h = refl
-
-link-next : (e : MBRPartitionEntry) (r : ℕ) (k : Link) → nextOf e ≡ to r k → linkOf e ≡ k
-unfolding nextOf
-link-next e r k q = go (eqb (e .«starting_lba») 0) q
-  where
-    go : (b : Bool) → pick b stop (to (e .«starting_lba») (linkOf e)) ≡ to r k → linkOf e ≡ k
-    go true q = let z : _≡_ {A = ℕ} 0 1 = cc in absurd (omega arith)
-    go false q = cc
-
 module _ (x : List ℕ) (g : Good x) (X : ℕ) where
   -- the EBR of a noted record
   header-noted : (l : LogicalPartition) (n : Option LogicalPartition) (i : ℕ) → Held (seen (diskOf x)) X l n → Fit x i → lbaAt x i ≡ at l
@@ -124,7 +109,7 @@ module _ (x : List ℕ) (g : Good x) (X : ℕ) where
 
   led-next : (l : LogicalPartition) (ls : List LogicalPartition) (i : ℕ) → Held (seen (diskOf x)) X l (next ls none) → Fit x i → lbaAt x i ≡ at l → Led (linkAt x i) ls
   led-next l [] i h f e = tt
-  led-next l (m ∷ ms) i h f e = sym (link-next (ebrOf (recordAt x i) .«partition_2») (at m - X) (linkIn m) (header-noted l (some m) i h f e .1))
+  led-next l (m ∷ ms) i h f e = sym (next→to (ebrOf (recordAt x i) .«partition_2») (at m - X) (linkIn m) (header-noted l (some m) i h f e .1) .1)
 
   row-rebuilt : (k : Link) (ls : List LogicalPartition) (is : List ℕ) → Led k ls → Row (Held (seen (diskOf x)) X) ls none → Row (Plain X) ls none → Noted x is (map at ls)
       → take (length ls) (rebuilt x k is) ≡ ls

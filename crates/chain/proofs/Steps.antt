@@ -1,123 +1,147 @@
--- The steps of reading a chain, ps the code takes them: places and record numbers. Assumes nothing.
+-- The steps of reading a chain, as the code takes them: places and record numbers. Assumes nothing.
 use mathlib.Core.Path.{_≡_, refl, sym, ap, _∙_}
-use mathlib.Core.Logic.{_≢_}
 use mathlib.Core.List.{List, [], _∷_}
-use mathlib.Core.Bool.{Bool, true, false}
-use mathlib.Core.Option.{some}
+use mathlib.Core.Option.{Option, none, some}
 use Prim.Native.Nat.{ℕ, zero, suc, _+_, _-_, _^_, _≤_, _<_}
 use native.Mathlib.Omega.{arith}
 use native.Mathlib.Nat.{add-zero}
-use native.Mathlib.Numerals.{add-one, sub-one}
-use lib.Dec.{eqb, ltb}
+use native.Mathlib.Numerals.{add-one}
 use lib.ListN.{length, set, drop}
 use borrow.Author.Tests.{lt-ltb, le-ltb, eq-eqb, ne-eqb}
-use Rattle.base.specs.Pick.{pick}
 use Rattle.base.specs.Said.{Said, gives, refuses, andThen}
-use Rattle.base.specs.Checks.{Check, checked, answer}
-use Rattle.base.proofs.Checks.{answer-gives}
+use Rattle.base.specs.Checks.{answer}
+use Rattle.base.proofs.Checks.{answer-gives, answer-refuses, checked-none, checked-some}
 use Rattle.entry.specs.declared.MBRPartitionEntry.{MBRPartitionEntry}
-use Rattle.entry.specs.Entry.{entryAt}
+use Rattle.entry.specs.Entry.{entryAt, noEntry}
 use Rattle.ebr.specs.declared.EBRHeader.{EBRHeader}
 use Rattle.ebr.specs.declared.Entries.{Entries}
 use Rattle.ebr.specs.Ebr.{ebrChecks, ebrOf, entriesOf}
 use Rattle.extract.specs.Disk.{Disk}
 use Rattle.extract.specs.Extract.{Good, count, diskSectors, lbaAt, recordAt, recordOf, diskOf, blank}
 use Rattle.extract.specs.declared.Outcome.the-variants as outcome
-use Rattle.extract.proofs.Disk.{size-of, sector-of, found-sector}
+use Rattle.extract.proofs.Disk.{size-of, sector-of, record-at}
 use Rattle.extract.proofs.Halves.{found-is, absent-is}
 use Rattle.table.specs.declared.LogicalPartition.{LogicalPartition}
 use Rattle.table.specs.Table.{most}
 use Rattle.chain.specs.declared.Head.{Head}
-use Rattle.chain.specs.Chain.{view, Link, firstLink, linkOf, placed, join, follow, chain, forgiven, logicalsOf}
+use Rattle.chain.specs.Chain.{view, Link, firstLink, linkOf, placed, join, byLink, follows, followsIn, chain, logicalsOf}
 use Rattle.chain.specs.Facts.{at}
-use Rattle.chain.specs.Walk.{entriesIn, shown, Ends, endsOf, endsIn, endsSaid, HeadAt, before, onwards, places, placesFrom, placesOf, counted, NotedAll}
+use Rattle.chain.specs.Walk.{lackOf, ebrIn, HeadAt, before, places, placesFrom, placesOf, counted, NotedAll}
+use Rattle.chain.proofs.Decision.{follows→facts}
+use Rattle.chain.proofs.Rows.{chain-stop, chain-on}
 
--- an EBR that is seen
-andThen-checked : {A B : Type 0} (cs : List Check) (s : Said A) (f : A → Said B) → andThen (checked cs refuses s) f ≡ checked cs refuses (andThen s f)
-andThen-checked [] s f = refl
-andThen-checked (c ∷ cs) s f = go (c .holds) (andThen-checked cs s f)
-  where
-    go : (b : Bool) → andThen (checked cs refuses s) f ≡ checked cs refuses (andThen s f)
-        → andThen (pick b (checked cs refuses s) (refuses (c .number))) f ≡ pick b (checked cs refuses (andThen s f)) (refuses (c .number))
-    go true ih = ih
-    go false ih = refl
-
-module _ {A : Type 0} (x : List ℕ) (a : ℕ) (f : EBRHeader → A) where
-  pub open-past : diskSectors x ≤ a → refuses 2 ≡ andThen (view (diskOf x) a) (λ h. gives (f h))
+-- what stands at a sector
+module _ (x : List ℕ) (a : ℕ) where
+  pub open-past : diskSectors x ≤ a → refuses 2 ≡ view (diskOf x) a
   unfolding view
   open-past h = rw (size-of x, le-ltb a (diskSectors x) h)
 
+  pub lack-past : diskSectors x ≤ a → none ≡ lackOf x a
+  lack-past h = rw (le-ltb a (diskSectors x) h)
+
   -- a sector on the disk with these bytes
-  open-sector : (r : List ℕ) → a < diskSectors x → diskOf x .sector a ≡ r → answer (ebrChecks r) (f (ebrOf r)) ≡ andThen (view (diskOf x) a) (λ h. gives (f h))
+  open-sector : (r : List ℕ) → a < diskSectors x → diskOf x .sector a ≡ r → answer (ebrChecks r) (ebrOf r) ≡ view (diskOf x) a
   unfolding view
-  open-sector r h e = rw (size-of x, lt-ltb a (diskSectors x) h, e) (sym (andThen-checked (ebrChecks r) (gives (ebrOf r)) (λ y. gives (f y))))
+  open-sector r h e = rw (size-of x, lt-ltb a (diskSectors x) h, e)
 
-  pub open-blank : (p : ℕ) → a < diskSectors x → ((j : ℕ) → j < p → lbaAt x j < a) → ((j : ℕ) → p ≤ j → j < count x → a < lbaAt x j)
-      → refuses 3 ≡ andThen (view (diskOf x) a) (λ h. gives (f h))
-  open-blank p h l u = open-sector blank h (sector-of x a ∙ absent-is x blank a p l u)
+  module _ (p : ℕ) (h : a < diskSectors x) (l : (j : ℕ) → j < p → lbaAt x j < a) (u : (j : ℕ) → p ≤ j → j < count x → a < lbaAt x j) where
+    pub open-blank : refuses 3 ≡ view (diskOf x) a
+    open-blank = open-sector blank h (sector-of x a ∙ absent-is x blank a p l u)
 
-  pub open-number : (i : ℕ) → Good x → a < diskSectors x → i < count x → lbaAt x i ≡ a
-      → answer (ebrChecks (recordAt x i)) (f (ebrOf (recordAt x i))) ≡ andThen (view (diskOf x) a) (λ h. gives (f h))
-  open-number i g h b e = open-sector (recordAt x i) h (sector-of x a ∙ found-is x blank g a i b e)
+    pub lack-blank : some a ≡ lackOf x a
+    lack-blank =
+        let z : length (recordOf x a) ≡ 0 = ap length (absent-is x [] a p l u) in
+        rw (lt-ltb a (diskSectors x) h, eq-eqb (length (recordOf x a)) 0 z)
 
-  pub open-record : Good x → a < diskSectors x → 0 < length (recordOf x a)
-      → answer (ebrChecks (recordOf x a)) (f (ebrOf (recordOf x a))) ≡ andThen (view (diskOf x) a) (λ h. gives (f h))
-  open-record g h z = open-sector (recordOf x a) h (found-sector x g a z .1)
+  module _ (i : ℕ) (g : Good x) (h : a < diskSectors x) (b : i < count x) (e : lbaAt x i ≡ a) where
+    pub open-number : answer (ebrChecks (recordAt x i)) (ebrOf (recordAt x i)) ≡ view (diskOf x) a
+    open-number = open-sector (recordAt x i) h (sector-of x a ∙ found-is x blank g a i b e)
 
-pub open-found : (x : List ℕ) (a : ℕ) → Good x → a < diskSectors x → 0 < length (recordOf x a)
-    → answer (ebrChecks (recordOf x a)) (entriesOf (recordOf x a)) ≡ shown (view (diskOf x) a)
-open-found x a g h z = open-record x a entriesIn g h z
+    pub lack-number : none ≡ lackOf x a
+    lack-number =
+        let l : length (recordOf x a) ≡ 512 = ap length (found-is x [] g a i b e) ∙ record-at x g i b .long in
+        rw (lt-ltb a (diskSectors x) h, ne-eqb (length (recordOf x a)) 0 (λ z. omega arith))
 
--- its head, from its entries
-pub ends-given : (r : List ℕ) (e : Entries) → gives e ≡ answer (ebrChecks r) (entriesOf r)
-    → (gives (endsOf e) ≡ answer (ebrChecks r) (endsOf (entriesOf r))) × (e .«partition_1» .«starting_lba» ≡ entryAt r 446 .«starting_lba»)
-ends-given r e q =
+-- an EBR that is opened, from its entries
+pub opened-given : (r : List ℕ) (e : Entries) → gives e ≡ answer (ebrChecks r) (entriesOf r) → (gives (ebrOf r) ≡ answer (ebrChecks r) (ebrOf r)) × (entriesOf r ≡ e)
+opened-given r e q =
     let k = answer-gives (ebrChecks r) (entriesOf r) e (sym q) in
-    (ap (λ s. andThen s (λ y. gives (endsOf y))) q ∙ andThen-checked (ebrChecks r) (gives (entriesOf r)) (λ y. gives (endsOf y)), ap (λ (y : Entries). y .«partition_1» .«starting_lba») (sym (k .1)))
+    (sym (checked-none (ebrChecks r) refuses (gives (ebrOf r)) (k .0)), k .1)
 
-pub ends-refused : (r : List ℕ) (k : ℕ) → refuses k ≡ answer (ebrChecks r) (entriesOf r) → refuses k ≡ answer (ebrChecks r) (endsOf (entriesOf r))
-ends-refused r k q = ap (λ s. andThen s (λ y. gives (endsOf y))) q ∙ andThen-checked (ebrChecks r) (gives (entriesOf r)) (λ y. gives (endsOf y))
+pub opened-refused : (r : List ℕ) (k : ℕ) → refuses k ≡ answer (ebrChecks r) (entriesOf r) → refuses k ≡ answer (ebrChecks r) (ebrOf r)
+opened-refused r k q = sym (checked-some (ebrChecks r) refuses (gives (ebrOf r)) k (answer-refuses (ebrChecks r) (entriesOf r) k (sym q)))
+
+-- what follows it, from its head
+pub head-follows : (x : List ℕ) (X m rel : ℕ) (h : Head) → HeadAt x (X + rel) h → follows m (h .at .0) rel (h .start) (h .link .0) ≡ followsIn m X rel (ebrIn x h)
+head-follows x X m rel h g = rw (g .at, g .start, g .link)
+
+-- the places of a chain do not depend on the link to its first EBR
+places-join : (a : ℕ) (k : Link) (h : EBRHeader) (s : Said (List LogicalPartition)) → placesOf (join (placed a k h) s) ≡ before a (placesOf s)
+unfolding placed
+places-join a k h (gives ls) = refl
+places-join a k h (refuses j) = refl
+
+pub chain-places : (v : ℕ → Said EBRHeader) (X m rel : ℕ) (k : Link) (h : EBRHeader) → placesOf (chain v X m rel k h) ≡ places v X m rel h
+unfolding chain places
+chain-places v X zero rel k h = refl
+chain-places v X (suc m) rel k h = go (followsIn (suc m) X rel h)
+  where
+    rest : Option ℕ → Said (List LogicalPartition)
+    rest o = byLink (gives []) (λ r. andThen (v (X + r)) (chain v X m r (linkOf (h .«partition_2»)))) o
+
+    go : (s : Said (Option ℕ)) → placesOf (andThen s (λ o. join (placed (X + rel) k h) (rest o))) ≡ placesOf (andThen s (λ o. join (placed (X + rel) (firstLink noEntry) h) (rest o)))
+    go (refuses j) = refl
+    go (gives o) = places-join (X + rel) k h (rest o) ∙ sym (places-join (X + rel) (firstLink noEntry) h (rest o))
 
 -- the steps
-module _ (v : ℕ → Said EBRHeader) (X m rel : ℕ) (e : Ends) where
-  pub places-none : m ≡ 0 → places v X m rel e ≡ refuses 6
-  unfolding places
-  places-none z = rw z
+module _ (v : ℕ → Said EBRHeader) (X m rel : ℕ) (h : EBRHeader) where
+  abbrev p : ℕ
+  p = h .«partition_1» .«starting_lba»
 
-  pub places-over : 0 < m → 2 ^ 32 ≤ e .part + (X + rel) → places v X m rel e ≡ refuses 7
-  unfolding places
-  places-over h o = go m h
+  abbrev t : ℕ
+  t = h .«partition_2» .«starting_lba»
+
+  pub places-refused : (k : ℕ) → refuses k ≡ followsIn m X rel h → places v X m rel h ≡ refuses k
+  unfolding places chain
+  places-refused k q = go m q
     where
-      go : (m : ℕ) → 0 < m → places v X m rel e ≡ refuses 7
-      go zero h = absurd (omega arith)
-      go (suc m) h = rw (le-ltb (e .part + (X + rel)) (2 ^ 32) o)
+      go : (m : ℕ) → refuses k ≡ followsIn m X rel h → places v X m rel h ≡ refuses k
+      go zero q = rw (← q)
+      go (suc m) q = rw (← q)
 
-  pub places-on : 0 < m → e .part + (X + rel) < 2 ^ 32 → places v X m rel e ≡ before (X + rel) (onwards (placesFrom v X (m - 1)) rel (e .link))
-  unfolding places
-  places-on h o = go m h
+  pub places-end : gives none ≡ followsIn m X rel h → places v X m rel h ≡ before (X + rel) (gives [])
+  unfolding places placed
+  places-end q = go m (follows→facts m (X + rel) rel p t none (sym q) .0) q
     where
-      go : (m : ℕ) → 0 < m → places v X m rel e ≡ before (X + rel) (onwards (placesFrom v X (m - 1)) rel (e .link))
-      go zero h = absurd (omega arith)
-      go (suc m) h = rw (lt-ltb (e .part + (X + rel)) (2 ^ 32) o, sub-one)
+      go : (m : ℕ) → 0 < m → gives none ≡ followsIn m X rel h → places v X m rel h ≡ before (X + rel) (gives [])
+      go zero z q = absurd (omega arith)
+      go (suc m) z q = ap placesOf (chain-stop v X m rel (firstLink noEntry) h (sym q))
 
-module _ (v : ℕ → Said EBRHeader) (X m rel t : ℕ) where
-  pub onwards-end : t ≡ 0 → onwards (placesFrom v X m) rel t ≡ gives []
-  unfolding onwards
-  onwards-end e = rw (eq-eqb t 0 e)
+  pub places-on : (r : ℕ) → gives (some r) ≡ followsIn m X rel h → places v X m rel h ≡ before (X + rel) (placesFrom v X (m - 1) r)
+  unfolding places
+  places-on r q = go m (follows→facts m (X + rel) rel p t (some r) (sym q) .0) q
+    where
+      k : Link
+      k = linkOf (h .«partition_2»)
 
-  pub onwards-back : t ≢ 0 → t ≤ rel → onwards (placesFrom v X m) rel t ≡ refuses 5
-  unfolding onwards
-  onwards-back e h = rw (ne-eqb t 0 e, le-ltb rel t h)
+      from : (m : ℕ) (s : Said EBRHeader) → placesOf (andThen s (chain v X m r k)) ≡ andThen s (places v X m r)
+      from m (gives y) = chain-places v X m r k y
+      from m (refuses j) = refl
 
-  onwards-on : t ≢ 0 → rel < t → onwards (placesFrom v X m) rel t ≡ placesFrom v X m t
-  unfolding onwards
-  onwards-on e h = rw (ne-eqb t 0 e, lt-ltb rel t h)
+      go : (m : ℕ) → 0 < m → gives (some r) ≡ followsIn m X rel h → places v X m rel h ≡ before (X + rel) (placesFrom v X (m - 1) r)
+      go zero z q = absurd (omega arith)
+      go (suc m) z q =
+          let i : m ≡ suc m - 1 = omega arith in
+          ap placesOf (chain-on v X m rel (firstLink noEntry) h r (sym q))
+          ∙ places-join (X + rel) (firstLink noEntry) h (andThen (v (X + r)) (chain v X m r k))
+          ∙ ap (before (X + rel)) (from m (v (X + r)))
+          ∙ ap (λ (j : ℕ). before (X + rel) (placesFrom v X j r)) i
 
-  pub onwards-shut : (k : ℕ) → t ≢ 0 → rel < t → refuses k ≡ endsSaid (v (X + t)) → onwards (placesFrom v X m) rel t ≡ refuses k
-  onwards-shut k e h q = onwards-on e h ∙ rw (← q)
+pub from-shut : (v : ℕ → Said EBRHeader) (X m r k : ℕ) → refuses k ≡ v (X + r) → placesFrom v X m r ≡ refuses k
+from-shut v X m r k q = rw (← q)
 
-  pub onwards-to : (b : Ends) → t ≢ 0 → rel < t → gives b ≡ endsSaid (v (X + t)) → onwards (placesFrom v X m) rel t ≡ places v X m t b
-  onwards-to b e h q = onwards-on e h ∙ rw (← q)
+pub from-on : (v : ℕ → Said EBRHeader) (X m r : ℕ) (h : EBRHeader) → gives h ≡ v (X + r) → placesFrom v X m r ≡ places v X m r h
+from-on v X m r h q = rw (← q)
 
 pub counted-none : (p : ℕ) → record { answer = outcome.Done; count = p } ≡ counted p (gives [])
 counted-none p = λ i. record { answer = outcome.Done; count = sym (add-zero p) i }
@@ -130,8 +154,8 @@ counted-more p a (refuses k) = refl
 pub noted-more : (x is : List ℕ) (a : ℕ) (h : Head) (s : Said (List ℕ)) → HeadAt x a h → h .start + a < 2 ^ 32 → NotedAll x is s → NotedAll x (h .number ∷ is) (before a s)
 noted-more x is a h (refuses k) g f n = tt
 noted-more x is a h (gives ps) g f n =
-    let w : entryAt (recordAt x (h .number)) 446 .«starting_lba» + lbaAt x (h .number) < 2 ^ 32 = omega (arith, g .start, g .at) in
-    (record { inside = g .inside; fits = w }, g .at, n)
+    let w : entryAt (recordAt x (h .number)) 446 .«starting_lba» + lbaAt x (h .number) < 2 ^ 32 = omega (arith, g .start, g .listed) in
+    (record { inside = g .inside; fits = w }, g .listed, n)
 
 -- a number stored in front of those behind it
 drop-stored : (f : List ℕ) (p v : ℕ) → p < length f → drop p (set f p v) ≡ v ∷ drop (suc p) f
@@ -143,64 +167,15 @@ pub noted-stored : (x f : List ℕ) (p a : ℕ) (h : Head) (s : Said (List ℕ))
     → NotedAll x (drop p (set f p (h .number))) (before a s)
 noted-stored x f p a h s b g w n = rw (drop-stored f p (h .number) b) (noted-more x (drop (suc p) f) a h s g w (rw add-one at n))
 
--- they are the places of the chain
-places-join : (a : ℕ) (k : Link) (h : EBRHeader) (s : Said (List LogicalPartition)) → placesOf (join (placed a k h) s) ≡ before a (placesOf s)
-unfolding placed
-places-join a k h (gives ls) = refl
-places-join a k h (refuses j) = refl
-
-places-follow : (go : ℕ → Link → Said (List LogicalPartition)) (on : ℕ → Said (List ℕ)) (rel : ℕ) (link : MBRPartitionEntry)
-    → placesOf (go (link .«starting_lba») (linkOf link)) ≡ on (link .«starting_lba») → placesOf (follow go rel link) ≡ onwards on rel (link .«starting_lba»)
-unfolding follow onwards
-places-follow go on rel link e = by (eqb (link .«starting_lba») 0) (ltb rel (link .«starting_lba»))
-  where
-    by : (t u : Bool) → placesOf (pick t (gives []) (pick u (go (link .«starting_lba») (linkOf link)) (refuses 5)))
-        ≡ pick t (gives []) (pick u (on (link .«starting_lba»)) (refuses 5))
-    by true u = refl
-    by false true = e
-    by false false = refl
-
-pub chain-places : (v : ℕ → Said EBRHeader) (X m rel : ℕ) (k : Link) (h : EBRHeader) → placesOf (chain v X m rel k h) ≡ places v X m rel (endsIn h)
-unfolding chain places
-chain-places v X zero rel k h = refl
-chain-places v X (suc m) rel k h =
-    by (chain-places v X m) (ltb (h .«partition_1» .«starting_lba» + (X + rel)) (2 ^ 32))
-  where
-    to : ((r : ℕ) (j : Link) (g : EBRHeader) → placesOf (chain v X m r j g) ≡ places v X m r (endsIn g)) → (r : ℕ) (j : Link) (s : Said EBRHeader)
-        → placesOf (andThen s (chain v X m r j)) ≡ andThen (endsSaid s) (places v X m r)
-    to ih r j (gives g) = ih r j g
-    to ih r j (refuses i) = refl
-
-    by : ((r : ℕ) (j : Link) (g : EBRHeader) → placesOf (chain v X m r j g) ≡ places v X m r (endsIn g)) → (t : Bool)
-        → placesOf (pick t (join (placed (X + rel) k h) (follow (λ r j. andThen (v (X + r)) (chain v X m r j)) rel (h .«partition_2»))) (refuses 7))
-        ≡ pick t (before (X + rel) (onwards (placesFrom v X m) rel (h .«partition_2» .«starting_lba»))) (refuses 7)
-    by ih false = refl
-    by ih true =
-        let t = h .«partition_2» .«starting_lba» in
-        places-join (X + rel) k h (follow (λ r j. andThen (v (X + r)) (chain v X m r j)) rel (h .«partition_2»))
-        ∙ ap (before (X + rel)) (places-follow (λ r j. andThen (v (X + r)) (chain v X m r j)) (placesFrom v X m) rel (h .«partition_2») (to ih t (linkOf (h .«partition_2»)) (v (X + t))))
-
 -- the first EBR
 module _ (d : Disk) (x : MBRPartitionEntry) where
-  shut-at : (s : Said EBRHeader) (f : EBRHeader → Said (List LogicalPartition)) (k : ℕ) → refuses k ≡ endsSaid s → forgiven s f ≡ gives []
-  shut-at (refuses j) f k q = refl
-  shut-at (gives h) f k q = let z : _≡_ {A = ℕ} 0 1 = cc in absurd (omega arith)
+  first-at : (s : Said EBRHeader) → view d (x .«starting_lba» + 0) ≡ s → view d (x .«starting_lba») ≡ s
+  first-at s q = ap (view d) (sym (add-zero (x .«starting_lba»))) ∙ q
 
-  on-at : (s : Said EBRHeader) (k : Link) (e : Ends) → gives e ≡ endsSaid s
-      → placesOf (forgiven s (chain (view d) (x .«starting_lba») most 0 k)) ≡ places (view d) (x .«starting_lba») most 0 e
-  on-at (refuses j) k e q = let z : _≡_ {A = ℕ} 0 1 = cc in absurd (omega arith)
-  on-at (gives h) k e q =
-      let z : endsIn h ≡ e = cc in
-      chain-places (view d) (x .«starting_lba») most 0 k h ∙ ap (places (view d) (x .«starting_lba») most 0) z
-
-  pub first-shut : (k : ℕ) → refuses k ≡ endsSaid (view d (x .«starting_lba» + 0)) → placesOf (logicalsOf (view d) (some x)) ≡ gives []
+  pub first-shut : (k : ℕ) → refuses k ≡ view d (x .«starting_lba» + 0) → placesOf (logicalsOf (view d) (some x)) ≡ gives []
   unfolding logicalsOf
-  first-shut k q =
-      let r : refuses k ≡ endsSaid (view d (x .«starting_lba»)) = q ∙ ap (λ (a : ℕ). endsSaid (view d a)) (add-zero (x .«starting_lba»)) in
-      ap placesOf (shut-at (view d (x .«starting_lba»)) (chain (view d) (x .«starting_lba») most 0 (firstLink x)) k r)
+  first-shut k q = rw (first-at (refuses k) (sym q))
 
-  pub first-on : (e : Ends) → gives e ≡ endsSaid (view d (x .«starting_lba» + 0)) → placesOf (logicalsOf (view d) (some x)) ≡ places (view d) (x .«starting_lba») most 0 e
+  pub first-on : (h : EBRHeader) → gives h ≡ view d (x .«starting_lba» + 0) → placesOf (logicalsOf (view d) (some x)) ≡ places (view d) (x .«starting_lba») most 0 h
   unfolding logicalsOf
-  first-on e q =
-      let r : gives e ≡ endsSaid (view d (x .«starting_lba»)) = q ∙ ap (λ (a : ℕ). endsSaid (view d a)) (add-zero (x .«starting_lba»)) in
-      on-at (view d (x .«starting_lba»)) (firstLink x) e r
+  first-on h q = rw (first-at (gives h) (sym q)) (chain-places (view d) (x .«starting_lba») most 0 (firstLink x) h)

@@ -1,10 +1,13 @@
 -- A sector seen as an EBR. Assumes nothing.
 use mathlib.Core.Path.{_≡_, refl}
 use mathlib.Core.List.{_∷_}
+use mathlib.Core.Bool.{Bool, true, false}
+use mathlib.Core.Option.{none, some}
 use Prim.Native.Nat.{ℕ, _<_}
 use native.Mathlib.Omega.{arith}
-use lib.Dec.{ltb}
-use borrow.Author.Tests.{ltb-true, lt-ltb, eq-eqb, ne-eqb}
+use lib.Dec.{eqb, ltb}
+use borrow.Author.Tests.{ltb-true, lt-ltb, eqb-true, eq-eqb, ne-eqb}
+use Rattle.base.specs.Pick.{pick}
 use Rattle.base.specs.Said.{Said, gives, refuses}
 use Rattle.base.specs.Checks.{_!_, answer, AllHold}
 use Rattle.base.proofs.Checks.{answer-gives, none-fails, all-hold, checked-none}
@@ -12,7 +15,7 @@ use Rattle.entry.specs.declared.MBRPartitionEntry.{MBRPartitionEntry}
 use Rattle.ebr.specs.declared.EBRHeader.{EBRHeader}
 use Rattle.ebr.specs.Ebr.{ebrChecks, ebrOf}
 use Rattle.extract.specs.Disk.{Disk}
-use Rattle.chain.specs.Chain.{view, linkOf}
+use Rattle.chain.specs.Chain.{view, Link, linkOf, byLink}
 use Rattle.chain.specs.Facts.{Body, Next, stop, to, ebr, nextOf, bodyIn, viewed}
 
 -- an EBR that is seen: its sector is on the disk, its signature and flags are right, and its bytes say it
@@ -59,3 +62,22 @@ next-stop e h = rw (eq-eqb (e .«starting_lba») 0 h)
 pub next-to : (e : MBRPartitionEntry) → 0 < e .«starting_lba» → nextOf e ≡ to (e .«starting_lba») (linkOf e)
 unfolding nextOf
 next-to e h = rw (ne-eqb (e .«starting_lba») 0 (λ z. omega arith))
+
+pub next→stop : (e : MBRPartitionEntry) → nextOf e ≡ stop → e .«starting_lba» ≡ 0
+unfolding nextOf
+next→stop e h = go (eqb (e .«starting_lba») 0) refl h
+  where
+    go : (b : Bool) → eqb (e .«starting_lba») 0 ≡ b → byLink stop (λ r. to r (linkOf e)) (pick b none (some (e .«starting_lba»))) ≡ stop → e .«starting_lba» ≡ 0
+    go true q h = eqb-true (e .«starting_lba») 0 q
+    go false q h = let w : _≡_ {A = ℕ} 0 1 = cc in absurd (omega arith)
+
+pub next→to : (e : MBRPartitionEntry) (r : ℕ) (k : Link) → nextOf e ≡ to r k → (e .«starting_lba» ≡ r) × (linkOf e ≡ k)
+unfolding nextOf
+next→to e r k h = go (eqb (e .«starting_lba») 0) h
+  where
+    go : (b : Bool) → byLink stop (λ y. to y (linkOf e)) (pick b none (some (e .«starting_lba»))) ≡ to r k → (e .«starting_lba» ≡ r) × (linkOf e ≡ k)
+    go true h = let w : _≡_ {A = ℕ} 0 1 = cc in absurd (omega arith)
+    go false h =
+        let p : e .«starting_lba» ≡ r = cc in
+        let q : linkOf e ≡ k = cc in
+        (p, q)

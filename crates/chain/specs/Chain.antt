@@ -64,18 +64,32 @@ placed a k h =
 abbrev pub join : LogicalPartition → Said (List LogicalPartition) → Said (List LogicalPartition)
 join l s = andThen s (λ ls. gives (l ∷ ls))
 
--- what follows: link start 0 is an end, whatever the link's type; one above 0 but not above the current place is refused 5
-unfoldable pub follow : (ℕ → Link → Said (List LogicalPartition)) → ℕ → MBRPartitionEntry → Said (List LogicalPartition)
-follow go rel link =
-    pick (eqb (link .«starting_lba») 0) (gives [])
-    (checked ((5 ! ltb rel (link .«starting_lba»)) ∷ []) refuses (go (link .«starting_lba») (linkOf link)))
+-- where a link that starts at t leads: 0 is an end, whatever the link's type
+abbrev pub leadsTo : ℕ → Option ℕ
+leadsTo t = pick (eqb t 0) none (some t)
+
+-- by where a link leads: to an end, or on to a place
+abbrev pub byLink : {A : Type 0} → A → (ℕ → A) → Option ℕ → A
+byLink end on none = end
+byLink end on (some r) = on r
+
+-- The decision what follows an EBR at sector a, whose place counted from the extended partition's start is rel, whose partition starts at p and whose link at t;
+-- m is the number of EBRs still allowed. The 25th EBR 6; partition start + sector beyond 32 bits 7; an end; a link not above the current place 5; else the link's place
+unfoldable pub follows : ℕ → ℕ → ℕ → ℕ → ℕ → Said (Option ℕ)
+follows m a rel p t =
+    checked ((6 ! ltb 0 m) ∷ (7 ! ltb (p + a) (2 ^ 32)) ∷ []) refuses
+    (byLink (gives none) (λ r. answer ((5 ! ltb rel r) ∷ []) (some r)) (leadsTo t))
+
+-- what follows the EBR h at X + rel
+abbrev pub followsIn : ℕ → ℕ → ℕ → EBRHeader → Said (Option ℕ)
+followsIn m X rel h = follows m (X + rel) rel (h .«partition_1» .«starting_lba») (h .«partition_2» .«starting_lba»)
 
 -- the EBR h at X + rel, to which k leads, and what follows it; m is the number of EBRs still allowed
 unfoldable pub chain : (ℕ → Said EBRHeader) → ℕ → ℕ → ℕ → Link → EBRHeader → Said (List LogicalPartition)
-chain v X zero rel k h = refuses 6
+chain v X zero rel k h = andThen (followsIn zero X rel h) (λ o. gives [])
 chain v X (suc m) rel k h =
-    checked ((7 ! ltb (h .«partition_1» .«starting_lba» + (X + rel)) (2 ^ 32)) ∷ []) refuses
-    (join (placed (X + rel) k h) (follow (λ r j. andThen (v (X + r)) (chain v X m r j)) rel (h .«partition_2»)))
+    andThen (followsIn (suc m) X rel h)
+    (λ o. join (placed (X + rel) k h) (byLink (gives []) (λ r. andThen (v (X + r)) (chain v X m r (linkOf (h .«partition_2»)))) o))
 
 -- if the first EBR fails there are no logical partitions and no refusal
 abbrev pub forgiven : Said EBRHeader → (EBRHeader → Said (List LogicalPartition)) → Said (List LogicalPartition)

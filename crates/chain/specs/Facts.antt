@@ -3,9 +3,7 @@ use Prim.Native.Nat.{ℕ, _+_, _-_, _^_, _≤_, _<_}
 use mathlib.Core.List.{List, [], _∷_}
 use mathlib.Core.Option.{Option, none, some}
 use mathlib.Core.Path.{_≡_}
-use lib.Dec.{eqb}
 use lib.ListN.{length}
-use Rattle.base.specs.Pick.{pick}
 use Rattle.base.specs.Said.{Said, gives, refuses}
 use Rattle.base.specs.Row.{Row}
 use Rattle.entry.specs.declared.MBRPartitionEntry.{MBRPartitionEntry}
@@ -14,7 +12,7 @@ use Rattle.ebr.specs.declared.EBRHeader.{EBRHeader}
 use Rattle.extract.specs.Disk.{Disk}
 use Rattle.table.specs.declared.LogicalPartition.{LogicalPartition}
 use Rattle.table.specs.Table.{most}
-use Rattle.chain.specs.Chain.{view, Link, firstLink, linkOf, startingAt}
+use Rattle.chain.specs.Chain.{view, Link, firstLink, linkOf, startingAt, leadsTo, byLink}
 
 -- what an EBR says of its own partition, whose start counts from the EBR
 pub record Body : Type 0 where
@@ -31,9 +29,8 @@ pub data View : Type 0 where
   bad : ℕ → View
   ebr : Body → Next → View
 
--- link start 0 is an end
 unfoldable pub nextOf : MBRPartitionEntry → Next
-nextOf e = pick (eqb (e .«starting_lba») 0) stop (to (e .«starting_lba») (linkOf e))
+nextOf e = byLink stop (λ r. to r (linkOf e)) (leadsTo (e .«starting_lba»))
 
 abbrev pub bodyIn : EBRHeader → Body
 bodyIn h = record { kept = h .kept; part = h .«partition_1» }

@@ -1,7 +1,8 @@
 -- What the chain steps carry: the places of EBRs and the numbers of their records, and the partitions made of them. Assumes nothing.
-use Prim.Native.Nat.{ℕ, zero, suc, _+_, _-_, _^_, _<_}
+use Prim.Native.Nat.{ℕ, _+_, _-_, _^_, _<_}
 use mathlib.Core.List.{List, [], _∷_, map}
 use mathlib.Core.Option.{Option, none, some}
+use mathlib.Core.Bool.{Bool}
 use mathlib.Core.Path.{_≡_}
 use lib.Dec.{eqb, ltb}
 use lib.ListN.{length, getD}
@@ -10,79 +11,87 @@ use Rattle.base.specs.Said.{Said, gives, refuses, andThen}
 use Rattle.entry.specs.declared.MBRPartitionEntry.{MBRPartitionEntry}
 use Rattle.entry.specs.Entry.{entryAt, noEntry}
 use Rattle.ebr.specs.declared.EBRHeader.{EBRHeader}
-use Rattle.ebr.specs.declared.Entries.{Entries}
 use Rattle.ebr.specs.Ebr.{ebrOf}
-use Rattle.extract.specs.Extract.{count, lbaAt, recordAt}
+use Rattle.extract.specs.Extract.{count, diskSectors, lbaAt, recordAt, recordOf}
 use Rattle.extract.specs.declared.Outcome.{Outcome}
 use Rattle.extract.specs.declared.Outcome.the-variants as outcome
 use Rattle.table.specs.declared.LogicalPartition.{LogicalPartition}
 use Rattle.table.specs.Table.{slots}
 use Rattle.chain.specs.declared.Head.{Head}
 use Rattle.chain.specs.declared.Met.{Met}
-use Rattle.chain.specs.declared.Met.the-variants.{Shut, Ebr}
+use Rattle.chain.specs.declared.Met.the-variants.{Shut, Absent, Ebr}
+use Rattle.chain.specs.declared.Reached.{Reached}
+use Rattle.chain.specs.declared.Reached.the-variants as reached
+use Rattle.chain.specs.declared.Follows.{Follows}
+use Rattle.chain.specs.declared.Follows.the-variants as follow
 use Rattle.chain.specs.declared.Counted.{Counted}
-use Rattle.chain.specs.Chain.{Link, firstLink, linkOf, startingAt, placed}
+use Rattle.chain.specs.Chain.{Link, firstLink, linkOf, startingAt, placed, chain}
 use Rattle.chain.specs.Facts.{at}
 
--- the entries of an EBR
-abbrev pub entriesIn : EBRHeader → Entries
-entriesIn h = record { «partition_1» = h .«partition_1»; «partition_2» = h .«partition_2» }
+-- a place on a disk of d sectors: none at or past its end
+abbrev pub placeOn : ℕ → ℕ → Option ℕ
+placeOn d a = pick (ltb a d) (some a) none
 
-abbrev pub shown : Said EBRHeader → Said Entries
-shown s = andThen s (λ h. gives (entriesIn h))
+abbrev pub placeSaid : Reached → Option ℕ
+placeSaid reached.Beyond = none
+placeSaid (reached.At a) = some (a .0)
 
--- where an EBR's partition starts, and its link
-pub record Ends : Type 0 where
-  pub part : ℕ
-  pub link : ℕ
+abbrev pub followsSaid : Follows → Said (Option ℕ)
+followsSaid follow.End = gives none
+followsSaid (follow.Link r) = gives (some (r .0))
+followsSaid (follow.Refused k) = refuses k
 
-abbrev pub endsOf : Entries → Ends
-endsOf e = record { part = e .«partition_1» .«starting_lba»; link = e .«partition_2» .«starting_lba» }
+-- the EBR of a head
+abbrev pub ebrIn : List ℕ → Head → EBRHeader
+ebrIn x h = ebrOf (recordAt x (h .number))
 
-abbrev pub endsIn : EBRHeader → Ends
-endsIn h = record { part = h .«partition_1» .«starting_lba»; link = h .«partition_2» .«starting_lba» }
+-- what is met at a sector: a refusal, a sector without a record, which is blank, or the EBR of a record
+abbrev pub metSaid : List ℕ → Met → Said EBRHeader
+metSaid x (Shut k) = refuses k
+metSaid x (Absent a) = refuses 3
+metSaid x (Ebr h) = gives (ebrIn x h)
 
-abbrev pub endsSaid : Said EBRHeader → Said Ends
-endsSaid s = andThen s (λ h. gives (endsIn h))
+-- the extract has no record for sector a
+abbrev pub absent : List ℕ → ℕ → Bool
+absent x a = eqb (length (recordOf x a)) 0
 
--- what a head says of its EBR
-abbrev pub headEnds : Head → Ends
-headEnds h = record { part = h .start; link = h .link .0 }
+-- sector a, if it is on the disk and the extract has no record for it
+abbrev pub lackOf : List ℕ → ℕ → Option ℕ
+lackOf x a = pick (ltb a (diskSectors x)) (pick (absent x a) (some a) none) none
 
-abbrev pub metSaid : Met → Said Ends
-metSaid (Shut k) = refuses k
-metSaid (Ebr h) = gives (headEnds h)
+abbrev pub lackSaid : Met → Option ℕ
+lackSaid (Shut k) = none
+lackSaid (Absent a) = some (a .0)
+lackSaid (Ebr h) = none
 
 -- it is the head of the extract's record for sector a
 pub record HeadAt (x : List ℕ) (a : ℕ) (h : Head) : Type 0 where
   pub inside : h .number < count x
-  pub at : lbaAt x (h .number) ≡ a
-  pub start : h .start ≡ entryAt (recordAt x (h .number)) 446 .«starting_lba»
+  pub listed : lbaAt x (h .number) ≡ a
+  pub at : h .at .0 ≡ a
+  pub start : h .start ≡ ebrIn x h .«partition_1» .«starting_lba»
+  pub link : h .link .0 ≡ ebrIn x h .«partition_2» .«starting_lba»
 
 abbrev pub MetAt : List ℕ → ℕ → Met → Type 0
 MetAt x a (Shut k) = Unit {0}
+MetAt x a (Absent b) = Unit {0}
 MetAt x a (Ebr h) = HeadAt x a h
 
 -- the place of an EBR in front of those behind it
 abbrev pub before : ℕ → Said (List ℕ) → Said (List ℕ)
 before a s = andThen s (λ ps. gives (a ∷ ps))
 
--- the places behind an EBR at X + rel whose link starts at t
-unfoldable pub onwards : (ℕ → Said (List ℕ)) → ℕ → ℕ → Said (List ℕ)
-onwards go rel t = pick (eqb t 0) (gives []) (pick (ltb rel t) (go t) (refuses 5))
-
--- the places of the EBRs of a chain: the one at X + rel and those behind it, at most m
-unfoldable pub places : (ℕ → Said EBRHeader) → ℕ → ℕ → ℕ → Ends → Said (List ℕ)
-places v X zero rel e = refuses 6
-places v X (suc m) rel e =
-    pick (ltb (e .part + (X + rel)) (2 ^ 32)) (before (X + rel) (onwards (λ r. andThen (endsSaid (v (X + r))) (places v X m r)) rel (e .link))) (refuses 7)
-
-abbrev pub placesFrom : (ℕ → Said EBRHeader) → ℕ → ℕ → ℕ → Said (List ℕ)
-placesFrom v X m r = andThen (endsSaid (v (X + r))) (places v X m r)
-
 -- the places of logical partitions that are read
 abbrev pub placesOf : Said (List LogicalPartition) → Said (List ℕ)
 placesOf s = andThen s (λ ls. gives (map at ls))
+
+-- the places of the EBRs of a chain: h at X + rel and those behind it, at most m; the link to h does not matter
+unfoldable pub places : (ℕ → Said EBRHeader) → ℕ → ℕ → ℕ → EBRHeader → Said (List ℕ)
+places v X m rel h = placesOf (chain v X m rel (firstLink noEntry) h)
+
+-- those of the chain at a link's place
+abbrev pub placesFrom : (ℕ → Said EBRHeader) → ℕ → ℕ → ℕ → Said (List ℕ)
+placesFrom v X m r = andThen (v (X + r)) (places v X m r)
 
 -- the number of EBRs, p of them in front of those that are read; a refusal gives none
 abbrev pub counted : ℕ → Said (List ℕ) → Counted

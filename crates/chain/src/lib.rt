@@ -1,28 +1,45 @@
-// The chain of EBRs, read from a checked extract.
+// The chain of EBRs in a checked extract: where a link leads, what stands there, and what follows it.
 use ebr::Opened;
+use entry::MBRPartitionEntry;
 use extract::Outcome;
 use extract::Spot;
 use table::DiskLba;
 use table::LinkLba;
 ghost use mathlib.Core.Path.{_≡_};
+ghost use mathlib.Core.Option.{none};
 ghost use Prim.Native.Nat.{_+_, _-_, _<_};
 ghost use Rattle.base.specs.Checks.{answer};
-ghost use Rattle.ebr.specs.Ebr.{ebrChecks, entriesOf};
+ghost use Rattle.ebr.specs.Ebr.{ebrChecks, ebrOf};
 ghost use Rattle.extract.specs.Extract.{Good, count, diskSectors, lbaAt, recordAt, diskOf};
-ghost use Rattle.chain.specs.Chain.{view};
-ghost use Rattle.chain.specs.Walk.{endsOf, endsSaid, metSaid, MetAt};
+ghost use Rattle.chain.specs.Chain.{view, follows};
+ghost use Rattle.chain.specs.Walk.{placeOn, placeSaid, followsSaid, metSaid, lackOf, lackSaid, MetAt};
 
-// An EBR that is opened: the number of its record, its partition's start and its link's.
+// Where a link leads: beyond the disk, or to a place on it. A place beyond 32 bits is beyond every disk.
+pub enum Reached {
+    Beyond,
+    At(DiskLba),
+}
+
+// An EBR that is opened: the number of its record, its place, its partition's start and its link's.
 pub struct Head {
     pub number: usize,
+    pub at: DiskLba,
     pub start: u32,
     pub link: LinkLba,
 }
 
-// An EBR's head, or a refusal's number.
+// What stands at a link's place: a refusal's number, a sector without a record, or an EBR.
 pub enum Met {
     Shut(u8),
+    Absent(DiskLba),
     Ebr(Head),
+}
+
+// What follows an EBR: an end, a link, or a refusal's number.
+pub enum Follows {
+    End,
+    Link(LinkLba),
+    Refused(u8),
 }
 
 // The number of EBRs of a chain, or a refusal and none.
@@ -31,11 +48,15 @@ pub struct Counted {
     pub count: usize,
 }
 
-// Where a link leads on the disk. Nowhere else is a link's place turned into one of the disk.
-pub fn place(base: DiskLba, rel: LinkLba) -> u64
-    ensures { λ r. ⌜ r ≡ base .0 + rel .0 ⌝ }
+// Where a link leads on a disk of d sectors. Nowhere else is a link's place turned into one of the disk.
+pub fn place(d: u32, base: DiskLba, rel: LinkLba) -> Reached
+    ensures { λ r. ⌜ placeSaid r ≡ placeOn d (base .0 + rel .0) ⌝ }
 {
-    base.0 as u64 + rel.0 as u64
+    let a = base.0 as u64 + rel.0 as u64;
+    if d as u64 <= a {
+        return Reached::Beyond;
+    }
+    Reached::At(DiskLba(a as u32))
 }
 
 // The link to a place on the disk, the inverse of `place`: 0 where that is not behind the base. Nowhere else is one of the disk turned into a link's.
@@ -48,12 +69,47 @@ pub fn link_of(base: DiskLba, at: DiskLba) -> LinkLba
     LinkLba(at.0 - base.0)
 }
 
-// The EBR of record number i: signature 3, flags 4.
-fn open_record(x: &[u8], n: usize, i: usize) -> Met
+// The place of an extended partition, from which its links count.
+pub fn area_of(extended: MBRPartitionEntry) -> DiskLba
+    ensures { λ r. ⌜ r .0 ≡ extended .«starting_lba» ⌝ }
+{
+    DiskLba(extended.starting_lba)
+}
+
+// The place of the EBR of record number i.
+pub fn place_of(x: &[u8], n: usize, i: usize) -> DiskLba
     requires { ⌜ (n ≡ count (now x)) × Good (now x) ⌝ }
     requires { ⌜ i < n ⌝ }
-    ensures { λ o. ⌜ metSaid o ≡ answer (ebrChecks (recordAt (now (x .entry)) i)) (endsOf (entriesOf (recordAt (now (x .entry)) i))) ⌝ }
-    ensures { λ o. ⌜ MetAt (now (x .entry)) (lbaAt (now (x .entry)) i) o ⌝ }
+    ensures { λ r. ⌜ r .0 ≡ lbaAt (now (x .entry)) i ⌝ }
+{
+    DiskLba(extract::lba_at(x, n, i))
+}
+
+// What follows an EBR at a place, with `left` EBRs still allowed: the 25th EBR 6; partition start + place beyond 32 bits 7; link start 0 is an end; one not above the current link's place 5; else the link.
+pub fn what_follows(left: usize, at: DiskLba, rel: LinkLba, start: u32, link: LinkLba) -> Follows
+    ensures { λ r. ⌜ followsSaid r ≡ follows left (at .0) (rel .0) start (link .0) ⌝ }
+{
+    if left == 0 {
+        return Follows::Refused(6);
+    }
+    if 4294967296 <= start as u64 + at.0 as u64 {
+        return Follows::Refused(7);
+    }
+    if link.0 == 0 {
+        return Follows::End;
+    }
+    if link.0 <= rel.0 {
+        return Follows::Refused(5);
+    }
+    Follows::Link(link)
+}
+
+// The EBR of record number i, which stands at a place: signature 3, flags 4.
+fn open_record(x: &[u8], n: usize, i: usize, at: DiskLba) -> Met
+    requires { ⌜ (n ≡ count (now x)) × Good (now x) ⌝ }
+    requires { ⌜ (i < n) × (lbaAt (now x) i ≡ at .0) ⌝ }
+    ensures { λ o. ⌜ metSaid (now (x .entry)) o ≡ answer (ebrChecks (recordAt (now (x .entry)) i)) (ebrOf (recordAt (now (x .entry)) i)) ⌝ }
+    ensures { λ o. ⌜ (lackSaid o ≡ none) × MetAt (now (x .entry)) (at .0) o ⌝ }
 {
     let r = extract::record_at(x, n, i);
     match ebr::open(r) {
@@ -63,6 +119,7 @@ fn open_record(x: &[u8], n: usize, i: usize) -> Met
             let link = e.partition_2.starting_lba;
             Met::Ebr(Head {
                 number: i,
+                at: at,
                 start: start,
                 link: LinkLba(link),
             })
@@ -74,15 +131,14 @@ fn open_record(x: &[u8], n: usize, i: usize) -> Met
 pub fn open_at(x: &[u8], n: usize, d: u32, base: DiskLba, rel: LinkLba) -> Met
     requires { ⌜ (n ≡ count (now x)) × Good (now x) ⌝ }
     requires { ⌜ d ≡ diskSectors (now x) ⌝ }
-    ensures { λ o. ⌜ metSaid o ≡ endsSaid (view (diskOf (now (x .entry))) (base .0 + rel .0)) ⌝ }
-    ensures { λ o. ⌜ MetAt (now (x .entry)) (base .0 + rel .0) o ⌝ }
+    ensures { λ o. ⌜ metSaid (now (x .entry)) o ≡ view (diskOf (now (x .entry))) (base .0 + rel .0) ⌝ }
+    ensures { λ o. ⌜ (lackSaid o ≡ lackOf (now (x .entry)) (base .0 + rel .0)) × MetAt (now (x .entry)) (base .0 + rel .0) o ⌝ }
 {
-    let a = place(base, rel);
-    if d as u64 <= a {
-        return Met::Shut(2);
-    }
-    match extract::seek(x, n, a as u32) {
-        Spot::Absent(_) => Met::Shut(3),
-        Spot::Found(i) => open_record(x, n, i),
+    match place(d, base, rel) {
+        Reached::Beyond => Met::Shut(2),
+        Reached::At(at) => match extract::seek(x, n, at.0) {
+            Spot::Absent(_) => Met::Absent(at),
+            Spot::Found(i) => open_record(x, n, i, at),
+        },
     }
 }

@@ -1,5 +1,6 @@
 // The chain of EBRs, read from a checked extract.
 use chain::Counted;
+use chain::Follows;
 use chain::Head;
 use chain::Met;
 use entry::MBRPartitionEntry;
@@ -9,19 +10,29 @@ use table::DiskLba;
 use table::LOGICALS;
 use table::LinkLba;
 ghost use mathlib.Core.Path.{_≡_};
+ghost use mathlib.Core.List.{[]};
 ghost use mathlib.Core.Option.{some};
 ghost use Prim.Native.Nat.{_+_, _-_, _≤_};
 ghost use lib.ListN.{length, drop};
-ghost use Rattle.base.specs.Said.{refuses};
+ghost use Rattle.base.specs.Said.{gives, refuses};
 ghost use Rattle.extract.specs.Extract.{Good, count, diskSectors, diskOf};
 ghost use Rattle.chain.specs.Chain.{view, logicalsOf};
-ghost use Rattle.chain.specs.Walk.{headEnds, HeadAt, onwards, places, placesFrom, placesOf, counted, NotedAll};
+ghost use Rattle.chain.specs.Walk.{ebrIn, HeadAt, places, placesFrom, placesOf, counted, NotedAll};
 
 fn refuse(k: u8) -> Counted
     ensures { λ r. ⌜ r ≡ counted 0 (refuses k) ⌝ }
 {
     Counted {
         answer: Outcome::Refused(Refusal { number: k }),
+        count: 0,
+    }
+}
+
+fn nothing() -> Counted
+    ensures { λ r. ⌜ r ≡ counted 0 (gives []) ⌝ }
+{
+    Counted {
+        answer: Outcome::Done,
         count: 0,
     }
 }
@@ -41,29 +52,35 @@ fn ebr_step(
     requires { ⌜ d ≡ diskSectors (now x) ⌝ }
     requires { ⌜ HeadAt (now x) (base .0 + rel .0) h ⌝ }
     requires { ⌜ (left ≤ 24) × (length (now found) ≡ 24) ⌝ }
-    ensures { λ r. ⌜ r ≡ counted (24 - left) (places (view (diskOf (now (x .entry)))) (base .0) left (rel .0) (headEnds h)) ⌝ }
-    ensures { λ r. ⌜ NotedAll (now (x .entry)) (drop (24 - left) (now (found .exit))) (places (view (diskOf (now (x .entry)))) (base .0) left (rel .0) (headEnds h)) ⌝ }
+    ensures { λ r. ⌜ r ≡ counted (24 - left) (places (view (diskOf (now (x .entry)))) (base .0) left (rel .0) (ebrIn (now (x .entry)) h)) ⌝ }
+    ensures { λ r. ⌜ NotedAll (now (x .entry)) (drop (24 - left) (now (found .exit))) (places (view (diskOf (now (x .entry)))) (base .0) left (rel .0) (ebrIn (now (x .entry)) h)) ⌝ }
 {
-    if left == 0 {
-        return refuse(6);
-    }
-    let a = chain::place(base, rel);
-    if 4294967296 <= h.start as u64 + a {
-        return refuse(7);
-    }
+    let number = h.number;
+    let at = h.at;
     let link = h.link;
-    let r = link_step(x, n, d, base, rel, link, left - 1, found);
-    found[LOGICALS - left] = h.number;
-    r
+    match chain::what_follows(left, at, rel, h.start, link) {
+        Follows::Refused(k) => refuse(k),
+        Follows::End => {
+            found[LOGICALS - left] = number;
+            Counted {
+                answer: Outcome::Done,
+                count: LOGICALS - left + 1,
+            }
+        }
+        Follows::Link(next) => {
+            let r = link_step(x, n, d, base, next, left - 1, found);
+            found[LOGICALS - left] = number;
+            r
+        }
+    }
 }
 
-// What follows an EBR: an end, or a link and a chain.
+// The chain at a link's place: at most `left` EBRs.
 fn link_step(
     x: &[u8],
     n: usize,
     d: u32,
     base: DiskLba,
-    rel: LinkLba,
     link: LinkLba,
     left: usize,
     found: &mut [usize],
@@ -71,20 +88,12 @@ fn link_step(
     requires { ⌜ (n ≡ count (now x)) × Good (now x) ⌝ }
     requires { ⌜ d ≡ diskSectors (now x) ⌝ }
     requires { ⌜ (left ≤ 24) × (length (now found) ≡ 24) ⌝ }
-    ensures { λ r. ⌜ r ≡ counted (24 - left) (onwards (placesFrom (view (diskOf (now (x .entry)))) (base .0) left) (rel .0) (link .0)) ⌝ }
-    ensures { λ r. ⌜ NotedAll (now (x .entry)) (drop (24 - left) (now (found .exit))) (onwards (placesFrom (view (diskOf (now (x .entry)))) (base .0) left) (rel .0) (link .0)) ⌝ }
+    ensures { λ r. ⌜ r ≡ counted (24 - left) (placesFrom (view (diskOf (now (x .entry)))) (base .0) left (link .0)) ⌝ }
+    ensures { λ r. ⌜ NotedAll (now (x .entry)) (drop (24 - left) (now (found .exit))) (placesFrom (view (diskOf (now (x .entry)))) (base .0) left (link .0)) ⌝ }
 {
-    if link.0 == 0 {
-        return Counted {
-            answer: Outcome::Done,
-            count: LOGICALS - left,
-        };
-    }
-    if link.0 <= rel.0 {
-        return refuse(5);
-    }
     match chain::open_at(x, n, d, base, link) {
         Met::Shut(k) => refuse(k),
+        Met::Absent(_) => refuse(3),
         Met::Ebr(h) => ebr_step(x, n, d, base, link, h, left, found),
     }
 }
@@ -103,12 +112,10 @@ pub fn read_chain(
     ensures { λ r. ⌜ r ≡ counted 0 (placesOf (logicalsOf (view (diskOf (now (x .entry)))) (some extended))) ⌝ }
     ensures { λ r. ⌜ NotedAll (now (x .entry)) (now (found .exit)) (placesOf (logicalsOf (view (diskOf (now (x .entry)))) (some extended))) ⌝ }
 {
-    let base = DiskLba(extended.starting_lba);
+    let base = chain::area_of(extended);
     match chain::open_at(x, n, d, base, LinkLba(0)) {
-        Met::Shut(_) => Counted {
-            answer: Outcome::Done,
-            count: 0,
-        },
+        Met::Shut(_) => nothing(),
+        Met::Absent(_) => nothing(),
         Met::Ebr(h) => ebr_step(x, n, d, base, LinkLba(0), h, LOGICALS, found),
     }
 }

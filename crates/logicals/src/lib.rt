@@ -1,7 +1,6 @@
 // The logical partitions of the EBRs that a chain has.
 use chs::CHS;
 use entry::MBRPartitionEntry;
-use table::DiskLba;
 use table::LOGICALS;
 use table::LogicalPartition;
 use table::MaybeChs;
@@ -60,10 +59,10 @@ pub fn part_at(x: &[u8], n: usize, i: usize) -> MBRPartitionEntry
     requires { ⌜ Fit (now x) i ⌝ }
     ensures { λ r. ⌜ r ≡ partIn (now (x .entry)) i ⌝ }
 {
-    let a = extract::lba_at(x, n, i);
+    let at = chain::place_of(x, n, i);
     let r = extract::record_at(x, n, i);
     let mut p = entryread::read(r, 446);
-    p.starting_lba = p.starting_lba + a;
+    p.starting_lba = p.starting_lba + at.0;
     p
 }
 
@@ -74,14 +73,14 @@ fn lift(x: &[u8], n: usize, i: usize, way: Way) -> LogicalPartition
     ensures { λ r. ⌜ r ≡ lifted (now (x .entry)) (linkBy way) i ⌝ }
 {
     let p = part_at(x, n, i);
-    let a = extract::lba_at(x, n, i);
+    let at = chain::place_of(x, n, i);
     let r = extract::record_at(x, n, i);
     let sectors = way.sectors;
     let first = way.first;
     let last = way.last;
     LogicalPartition {
         partition: p,
-        absolute_ebr_lba: DiskLba(a),
+        absolute_ebr_lba: at,
         ebr_sectors: sectors,
         ebr_first_chs: first,
         ebr_last_chs: last,

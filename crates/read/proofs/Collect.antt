@@ -4,9 +4,9 @@ use mathlib.Core.List.{List, [], _∷_}
 use mathlib.Core.Bool.{Bool, true, false}
 use mathlib.Core.Option.{Option, none, some}
 use mathlib.Core.Logic.{inl, inr}
-use Prim.Native.Nat.{ℕ, zero, suc, _+_, _^_, _≤_, _<_}
+use Prim.Native.Nat.{ℕ, zero, suc, _+_, _≤_, _<_}
 use native.Mathlib.Omega.{arith}
-use lib.Dec.{eqb, ltb}
+use lib.Dec.{ltb}
 use lib.ListN.{length}
 use borrow.Author.Tests.{eqb-false}
 use Rattle.base.specs.Pick.{pick}
@@ -18,11 +18,11 @@ use Rattle.extract.specs.Disk.{Disk}
 use Rattle.extract.specs.Extract.{Good, diskOf, recordOf}
 use Rattle.extract.proofs.Disk.{found-sector}
 use Rattle.table.specs.Table.{most}
-use Rattle.chain.specs.Chain.{view}
+use Rattle.chain.specs.Chain.{view, byLink, followsIn}
 use Rattle.chain.proofs.View.{view-same}
 use Rattle.header.specs.Header.{headerOn}
 use Rattle.read.specs.Read.{read}
-use Rattle.read.specs.Facts.{ifGiven, looking, ahead, behind, chainLooks, looked}
+use Rattle.read.specs.Facts.{ifGiven, looking, behind, chainLooks, looked}
 use Rattle.read.specs.Wanted.{absent, firstAbsent, From}
 use Rattle.read.specs.Collect.{Has, missing, Collected, enough, more}
 use Rattle.read.proofs.Facts.{header-same}
@@ -65,24 +65,18 @@ module _ (d : Disk) (x : List ℕ) (g : Good x) (f : From d x) where
   view-there a q = view-same e d a (f .size) (there-same a q)
 
   behind-has : (X m rel a : ℕ) (h : EBRHeader) → firstAbsent x (behind e X m rel h) ≡ some a → Has a (behind d X m rel h)
-  unfolding behind ahead firstAbsent
+  unfolding behind firstAbsent
   behind-has X zero rel a h k = nothing k
-  behind-has X (suc m) rel a h k =
-      go (λ r y. behind-has X m r a y) (ltb (h .«partition_1» .«starting_lba» + (X + rel)) (2 ^ 32)) (eqb (h .«partition_2» .«starting_lba») 0) (ltb rel (h .«partition_2» .«starting_lba»)) k
+  behind-has X (suc m) rel a h k = go (λ r y. behind-has X m r a y) (followsIn (suc m) X rel h) k
     where
-      to : ℕ
-      to = h .«partition_2» .«starting_lba»
+      looks : Disk → ℕ → List ℕ
+      looks w r = looking w (X + r) (view w (X + r)) (behind w X m r)
 
-      looks : Disk → List ℕ
-      looks w = looking w (X + to) (view w (X + to)) (behind w X m to)
-
-      go : ((r : ℕ) (y : EBRHeader) → firstAbsent x (behind e X m r y) ≡ some a → Has a (behind d X m r y)) → (p q b : Bool)
-          → firstAbsent x (pick p (pick q [] (pick b (looks e) [])) []) ≡ some a → Has a (pick p (pick q [] (pick b (looks d) [])) [])
-      go ih true true b k = nothing k
-      go ih true false true k =
-          looking-has (X + to) (view e (X + to)) (view d (X + to)) (behind e X m to) (behind d X m to) a (view-there (X + to)) (ih to) k
-      go ih true false false k = nothing k
-      go ih false q b k = nothing k
+      go : ((r : ℕ) (y : EBRHeader) → firstAbsent x (behind e X m r y) ≡ some a → Has a (behind d X m r y)) → (s : Said (Option ℕ))
+          → firstAbsent x (ifGiven s (byLink [] (looks e))) ≡ some a → Has a (ifGiven s (byLink [] (looks d)))
+      go ih (refuses j) k = nothing k
+      go ih (gives none) k = nothing k
+      go ih (gives (some r)) k = looking-has (X + r) (view e (X + r)) (view d (X + r)) (behind e X m r) (behind d X m r) a (view-there (X + r)) (ih r) k
 
   chain-has : (o : Option MBRPartitionEntry) (a : ℕ) → firstAbsent x (chainLooks e o) ≡ some a → Has a (chainLooks d o)
   unfolding chainLooks firstAbsent

@@ -4,9 +4,7 @@ use Rattle.base.proofs.Readings.{undone-injective, fromSaid, fromOption}
 use Rattle.extract.proofs.Answers.{numbered}
 use Rattle.read.specs.declared.Want.{Want}
 use Rattle.read.specs.declared.Want.the-variants as want
-use Rattle.read.specs.declared.Onward.{Onward}
-use Rattle.read.specs.declared.Onward.the-variants as onward
-use Rattle.read.specs.Wanted.{wantedSaid, onwardSaid}
+use Rattle.read.specs.Wanted.{wantedSaid}
 
 pub want-injective : (a b : Want) → wantedSaid a ≡ wantedSaid b → a ≡ b
 want-injective = undone-injective wantedSaid (fromSaid (fromOption want.Sector want.Nothing) (λ k. want.Refused (numbered k))) back
@@ -15,10 +13,3 @@ want-injective = undone-injective wantedSaid (fromSaid (fromOption want.Sector w
     back want.Nothing = refl
     back (want.Sector n) = refl
     back (want.Refused r) = refl
-
-pub onward-injective : (a b : Onward) → onwardSaid a ≡ onwardSaid b → a ≡ b
-onward-injective = undone-injective onwardSaid (fromOption (λ n. onward.To (record { 0 = n })) onward.Stop) back
-  where
-    back : (a : Onward) → fromOption (λ n. onward.To (record { 0 = n })) onward.Stop (onwardSaid a) ≡ a
-    back onward.Stop = refl
-    back (onward.To l) = refl

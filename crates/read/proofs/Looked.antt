@@ -3,9 +3,9 @@ use mathlib.Core.Path.{_≡_, refl, ap}
 use mathlib.Core.Option.{Option, none, some}
 use mathlib.Core.Bool.{Bool, true, false}
 use mathlib.Core.List.{List, [], _∷_}
-use Prim.Native.Nat.{ℕ, zero, suc, _+_, _^_}
+use Prim.Native.Nat.{ℕ, zero, suc, _+_}
 use native.Mathlib.Omega.{arith}
-use lib.Dec.{eqb, ltb}
+use lib.Dec.{ltb}
 use Rattle.base.specs.Pick.{pick}
 use Rattle.base.specs.Said.{Said, gives, refuses, andThen}
 use Rattle.base.specs.Checks.{answer}
@@ -17,10 +17,10 @@ use Rattle.mbr.specs.Mbr.{mbrOf, headerChecks, primaries, extendedOf}
 use Rattle.extract.specs.Disk.{Disk}
 use Rattle.table.specs.declared.LogicalPartition.{LogicalPartition}
 use Rattle.table.specs.Table.{most}
-use Rattle.chain.specs.Chain.{view, Link, firstLink, linkOf, placed, join, follow, chain, forgiven, logicalsOf}
+use Rattle.chain.specs.Chain.{view, Link, firstLink, linkOf, placed, join, byLink, followsIn, chain, forgiven, logicalsOf}
 use Rattle.read.specs.Read.{withChain, read}
 use Rattle.header.specs.Header.{headerOn}
-use Rattle.read.specs.Facts.{ifGiven, looking, ahead, behind, chainLooks, looked, Agree}
+use Rattle.read.specs.Facts.{ifGiven, looking, behind, chainLooks, looked, Agree}
 
 module _ (d e : Disk) (width : d .width ≡ e .width) (size : d .size ≡ e .size) where
   -- one sector: it is seen alike if it is past the disk, or both hold the same
@@ -61,37 +61,24 @@ module _ (d e : Disk) (width : d .width ≡ e .width) (size : d .size ≡ e .siz
       go (gives h) q = rw (← (view-looked (X + r) (view d (X + r)) (behind d X m r) g), q) (ih h (behind-looked (X + r) h (behind d X m r) q g))
 
   chain-like : (X m rel : ℕ) (k : Link) (h : EBRHeader) → Agree d e (behind d X m rel h) → chain (view d) X m rel k h ≡ chain (view e) X m rel k h
-  unfolding chain behind follow ahead
+  unfolding chain behind
   chain-like X zero rel k h g = refl
-  chain-like X (suc m) rel k h g =
-      fits (λ r j. step X m r j (λ x. chain-like X m r j x)) (ltb (h .«partition_1» .«starting_lba» + (X + rel)) (2 ^ 32)) g
+  chain-like X (suc m) rel k h g = go (λ r j. step X m r j (λ x. chain-like X m r j x)) (followsIn (suc m) X rel h) g
     where
-      link : MBRPartitionEntry
-      link = h .«partition_2»
+      link : Link
+      link = linkOf (h .«partition_2»)
 
       looks : ℕ → List ℕ
       looks r = looking d (X + r) (view d (X + r)) (behind d X m r)
 
-      on : (r : ℕ) (j : Link) → Disk → Said (List LogicalPartition)
-      on r j x = andThen (view x (X + r)) (chain (view x) X m r j)
+      on : Disk → Link → ℕ → Said (List LogicalPartition)
+      on x j r = andThen (view x (X + r)) (chain (view x) X m r j)
 
-      above : ((r : ℕ) (j : Link) → Agree d e (looks r) → on r j d ≡ on r j e) → (t : Bool) → Agree d e (pick t (looks (link .«starting_lba»)) [])
-          → pick t (on (link .«starting_lba») (linkOf link) d) (refuses 5) ≡ pick t (on (link .«starting_lba») (linkOf link) e) (refuses 5)
-      above ih true g = ih (link .«starting_lba») (linkOf link) g
-      above ih false g = refl
-
-      ends : ((r : ℕ) (j : Link) → Agree d e (looks r) → on r j d ≡ on r j e) → (t : Bool)
-          → Agree d e (pick t [] (pick (ltb rel (link .«starting_lba»)) (looks (link .«starting_lba»)) []))
-          → pick t (gives []) (pick (ltb rel (link .«starting_lba»)) (on (link .«starting_lba») (linkOf link) d) (refuses 5))
-          ≡ pick t (gives []) (pick (ltb rel (link .«starting_lba»)) (on (link .«starting_lba») (linkOf link) e) (refuses 5))
-      ends ih true g = refl
-      ends ih false g = above ih (ltb rel (link .«starting_lba»)) g
-
-      fits : ((r : ℕ) (j : Link) → Agree d e (looks r) → on r j d ≡ on r j e) → (t : Bool) → Agree d e (pick t (ahead looks rel link) [])
-          → pick t (join (placed (X + rel) k h) (follow (λ r j. on r j d) rel link)) (refuses 7)
-          ≡ pick t (join (placed (X + rel) k h) (follow (λ r j. on r j e) rel link)) (refuses 7)
-      fits ih true g = ap (join (placed (X + rel) k h)) (ends ih (eqb (link .«starting_lba») 0) g)
-      fits ih false g = refl
+      go : ((r : ℕ) (j : Link) → Agree d e (looks r) → on d j r ≡ on e j r) → (s : Said (Option ℕ)) → Agree d e (ifGiven s (byLink [] looks))
+          → andThen s (λ o. join (placed (X + rel) k h) (byLink (gives []) (on d link) o)) ≡ andThen s (λ o. join (placed (X + rel) k h) (byLink (gives []) (on e link) o))
+      go ih (refuses j) g = refl
+      go ih (gives none) g = refl
+      go ih (gives (some r)) g = ap (join (placed (X + rel) k h)) (ih r link g)
 
   logicals-like : (o : Option MBRPartitionEntry) → Agree d e (chainLooks d o) → logicalsOf (view d) o ≡ logicalsOf (view e) o
   unfolding chainLooks logicalsOf

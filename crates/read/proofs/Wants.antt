@@ -3,16 +3,15 @@ use mathlib.Core.Path.{_≡_, refl, sym, ap, _∙_}
 use mathlib.Core.List.{List, [], _∷_}
 use mathlib.Core.Bool.{Bool, true, false}
 use mathlib.Core.Option.{Option, none, some}
-use Prim.Native.Nat.{ℕ, zero, suc, _+_, _-_, _^_, _≤_, _<_}
+use Prim.Native.Nat.{ℕ, zero, suc, _+_, _-_, _≤_, _<_}
 use native.Mathlib.Omega.{arith}
 use native.Mathlib.Nat.{add-zero}
-use lib.Dec.{eqb, ltb}
+use lib.Dec.{ltb}
 use lib.ListN.{length}
 use borrow.Author.Tests.{eq-eqb, ne-eqb, lt-ltb, le-ltb, eqb-false}
 use Rattle.base.specs.Pick.{pick}
 use Rattle.base.specs.Said.{Said, gives, refuses}
 use Rattle.entry.specs.declared.MBRPartitionEntry.{MBRPartitionEntry}
-use Rattle.ebr.specs.declared.Entries.{Entries}
 use Rattle.ebr.specs.declared.EBRHeader.{EBRHeader}
 use Rattle.mbr.specs.declared.MBRHeader.{MBRHeader}
 use Rattle.mbr.specs.Mbr.{primaries, extendedOf}
@@ -24,14 +23,16 @@ use Rattle.extract.specs.declared.Refusal.{Refusal}
 use Rattle.extract.specs.declared.Outcome.the-variants as outcome
 use Rattle.extract.proofs.Disk.{size-of, found-sector}
 use Rattle.table.specs.Table.{most}
-use Rattle.chain.specs.Chain.{view}
-use Rattle.chain.specs.Walk.{entriesIn, shown}
+use Rattle.chain.specs.Chain.{view, byLink, followsIn}
+use Rattle.chain.specs.Walk.{lackOf}
+use Rattle.chain.proofs.Decision.{follows→facts}
+use Rattle.chain.proofs.View.{view→facts}
 use Rattle.read.specs.Read.{read}
 use Rattle.header.specs.Header.{headerOn}
 use Rattle.header.specs.Answers.{headerTold}
 use Rattle.header.specs.declared.HeaderRead.{HeaderRead}
-use Rattle.read.specs.Facts.{ifGiven, looking, ahead, behind, chainLooks, looked, Agree}
-use Rattle.read.specs.Wanted.{absent, firstAbsent, wantedSays, onwardFrom, looksFrom, From}
+use Rattle.read.specs.Facts.{ifGiven, looking, behind, chainLooks, looked, Agree}
+use Rattle.read.specs.Wanted.{absent, firstAbsent, wantedSays, looksFrom, From}
 use Rattle.read.proofs.Looked.{read-like}
 
 module _ (x : List ℕ) where
@@ -61,79 +62,68 @@ module _ (x : List ℕ) where
     pub want-there : a < diskSectors x → (length (recordOf x a) ≡ 0 → ⊥) → firstAbsent x (ifGiven s f) ≡ firstAbsent x (looking (diskOf x) a s f)
     want-there h z = rw (inside h) (sym (is-there a (ifGiven s f) z))
 
-  -- behind an EBR
-  pub want-shut : (s : Said EBRHeader) (f : EBRHeader → List ℕ) (k : ℕ) → refuses k ≡ shown s → none ≡ firstAbsent x (ifGiven s f)
-  want-shut (refuses j) f k q = sym none-left
-  want-shut (gives h) f k q = let w : _≡_ {A = ℕ} 0 1 = cc in absurd (omega arith)
+  -- what is met at a sector
+  module _ (a : ℕ) (f : EBRHeader → List ℕ) where
+    wanted-at : (s : Said EBRHeader) → firstAbsent x (looking (diskOf x) a s f) ≡ pick (ltb a (diskSectors x)) (pick (absent x a) (some a) (firstAbsent x (ifGiven s f))) none
+    unfolding firstAbsent
+    wanted-at s = rw (size-of x) (go (ltb a (diskSectors x)))
+      where
+        go : (b : Bool) → firstAbsent x (pick b (a ∷ ifGiven s f) []) ≡ pick b (pick (absent x a) (some a) (firstAbsent x (ifGiven s f))) none
+        go true = refl
+        go false = refl
 
-abbrev ifSome : Option ℕ → (ℕ → List ℕ) → List ℕ
-ifSome none f = []
-ifSome (some r) f = f r
+    pub want-lack : (s : Said EBRHeader) (b : ℕ) → some b ≡ lackOf x a → some b ≡ firstAbsent x (looking (diskOf x) a s f)
+    want-lack s b h = go (ltb a (diskSectors x)) (absent x a) h ∙ sym (wanted-at s)
+      where
+        go : (p q : Bool) → some b ≡ pick p (pick q (some a) none) none → some b ≡ pick p (pick q (some a) (firstAbsent x (ifGiven s f))) none
+        go true true h = h
+        go true false h = let w : _≡_ {A = ℕ} 0 1 = cc in absurd (omega arith)
+        go false q h = let w : _≡_ {A = ℕ} 0 1 = cc in absurd (omega arith)
 
-module _ (d : Disk) (X rel : ℕ) where
-  behind-entries : (m : ℕ) (h : EBRHeader) → behind d X m rel h ≡ ifSome (onwardFrom m (X + rel) rel (entriesIn h)) (looksFrom d X (m - 1))
-  unfolding behind ahead
-  behind-entries zero h = refl
-  behind-entries (suc m) h =
-      let z : m ≡ suc m - 1 = omega arith in
-      go (ltb (h .«partition_1» .«starting_lba» + (X + rel)) (2 ^ 32)) (eqb (h .«partition_2» .«starting_lba») 0) (ltb rel (h .«partition_2» .«starting_lba»))
-      ∙ ap
-      (λ (b : Bool).
-      ifSome
-      (pick b none
-      (pick (ltb (h .«partition_1» .«starting_lba» + (X + rel)) (2 ^ 32))
-      (pick (eqb (h .«partition_2» .«starting_lba») 0) none (pick (ltb rel (h .«partition_2» .«starting_lba»)) (some (h .«partition_2» .«starting_lba»)) none))
-      none))
-      (looksFrom d X m))
-      (sym (ne-eqb (suc m) 0 (λ e. absurd (omega arith))))
-      ∙ ap (λ (k : ℕ). ifSome (onwardFrom (suc m) (X + rel) rel (entriesIn h)) (looksFrom d X k)) z
+    pub want-shut : (s : Said EBRHeader) (k : ℕ) → none ≡ lackOf x a → refuses k ≡ s → none ≡ firstAbsent x (looking (diskOf x) a s f)
+    want-shut s k h q = rw (← q) (go (ltb a (diskSectors x)) (absent x a) h ∙ sym (wanted-at (refuses k)))
+      where
+        go : (p q : Bool) → none ≡ pick p (pick q (some a) none) none → none ≡ pick p (pick q (some a) (firstAbsent x [])) none
+        go true true h = h
+        go true false h = sym none-left
+        go false q h = refl
+
+    pub want-behind : (h : EBRHeader) → none ≡ lackOf x a → gives h ≡ view (diskOf x) a → firstAbsent x (f h) ≡ firstAbsent x (looking (diskOf x) a (view (diskOf x) a) f)
+    want-behind h n q =
+        let z : ltb a (diskSectors x) ≡ true = lt-ltb a (diskSectors x) (rw (size-of x) at (view→facts (diskOf x) a h (sym q) .0)) in
+        rw (← q) (rw z (go (absent x a) (rw z at n)) ∙ sym (wanted-at (gives h)))
+      where
+        go : (b : Bool) → none ≡ pick b (some a) none → firstAbsent x (f h) ≡ pick b (some a) (firstAbsent x (f h))
+        go true h = let w : _≡_ {A = ℕ} 0 1 = cc in absurd (omega arith)
+        go false h = refl
+
+-- behind an EBR
+module _ (x : List ℕ) (d : Disk) (X m rel : ℕ) (h : EBRHeader) where
+  pub want-refused : (k : ℕ) → refuses k ≡ followsIn m X rel h → none ≡ firstAbsent x (behind d X m rel h)
+  unfolding behind
+  want-refused k q = go m q
     where
-      go : (p q r : Bool)
-          → pick p (pick q [] (pick r (looksFrom d X m (h .«partition_2» .«starting_lba»)) [])) []
-          ≡ ifSome (pick p (pick q none (pick r (some (h .«partition_2» .«starting_lba»)) none)) none) (looksFrom d X m)
-      go true true r = refl
-      go true false true = refl
-      go true false false = refl
-      go false q r = refl
+      go : (m : ℕ) → refuses k ≡ followsIn m X rel h → none ≡ firstAbsent x (behind d X m rel h)
+      go zero q = sym (none-left x)
+      go (suc m) q = rw (← q) (sym (none-left x))
 
-  shown-behind : (s : Said EBRHeader) (m : ℕ) (e : Entries) → gives e ≡ shown s → ifGiven s (behind d X m rel) ≡ ifSome (onwardFrom m (X + rel) rel e) (looksFrom d X (m - 1))
-  shown-behind (refuses k) m e q = let w : _≡_ {A = ℕ} 0 1 = cc in absurd (omega arith)
-  shown-behind (gives h) m e q =
-      let z : e ≡ entriesIn h = cc in
-      behind-entries m h ∙ ap (λ (y : Entries). ifSome (onwardFrom m (X + rel) rel y) (looksFrom d X (m - 1))) (sym z)
+  pub want-end : gives none ≡ followsIn m X rel h → none ≡ firstAbsent x (behind d X m rel h)
+  unfolding behind
+  want-end q = go m q
+    where
+      go : (m : ℕ) → gives none ≡ followsIn m X rel h → none ≡ firstAbsent x (behind d X m rel h)
+      go zero q = sym (none-left x)
+      go (suc m) q = rw (← q) (sym (none-left x))
 
-  pub want-stop : (x : List ℕ) (s : Said EBRHeader) (m : ℕ) (e : Entries) → gives e ≡ shown s → none ≡ onwardFrom m (X + rel) rel e → none ≡ firstAbsent x (ifGiven s (behind d X m rel))
-  want-stop x s m e q o =
-      sym (ap (firstAbsent x) (shown-behind s m e q ∙ ap (λ (y : Option ℕ). ifSome y (looksFrom d X (m - 1))) (sym o)) ∙ none-left x)
-
-  pub want-on : (x : List ℕ) (s : Said EBRHeader) (m : ℕ) (e : Entries) (r : ℕ) → gives e ≡ shown s → some r ≡ onwardFrom m (X + rel) rel e
-      → firstAbsent x (looksFrom d X (m - 1) r) ≡ firstAbsent x (ifGiven s (behind d X m rel))
-  want-on x s m e r q o = sym (ap (firstAbsent x) (shown-behind s m e q ∙ ap (λ (y : Option ℕ). ifSome y (looksFrom d X (m - 1))) (sym o)))
-
-pub onward-left : (m a rel r : ℕ) (e : Entries) → some r ≡ onwardFrom m a rel e → 0 < m
-onward-left zero a rel r e o = let w : _≡_ {A = ℕ} 0 1 = cc in absurd (omega arith)
-onward-left (suc m) a rel r e o = omega arith
-
--- where an EBR leads
-module _ (m a rel : ℕ) (e : Entries) where
-  pub stop-none : m ≡ 0 → none ≡ onwardFrom m a rel e
-  stop-none z = rw (eq-eqb m 0 z)
-
-  pub stop-over : (m ≡ 0 → ⊥) → 2 ^ 32 ≤ e .«partition_1» .«starting_lba» + a → none ≡ onwardFrom m a rel e
-  stop-over z h = rw (ne-eqb m 0 z, le-ltb (e .«partition_1» .«starting_lba» + a) (2 ^ 32) h)
-
-  pub stop-end : (m ≡ 0 → ⊥) → e .«partition_1» .«starting_lba» + a < 2 ^ 32 → e .«partition_2» .«starting_lba» ≡ 0 → none ≡ onwardFrom m a rel e
-  stop-end z h t = rw (ne-eqb m 0 z, lt-ltb (e .«partition_1» .«starting_lba» + a) (2 ^ 32) h, eq-eqb (e .«partition_2» .«starting_lba») 0 t)
-
-  pub stop-back : (m ≡ 0 → ⊥) → e .«partition_1» .«starting_lba» + a < 2 ^ 32 → (e .«partition_2» .«starting_lba» ≡ 0 → ⊥) → e .«partition_2» .«starting_lba» ≤ rel
-      → none ≡ onwardFrom m a rel e
-  stop-back z h t b =
-      rw (ne-eqb m 0 z, lt-ltb (e .«partition_1» .«starting_lba» + a) (2 ^ 32) h, ne-eqb (e .«partition_2» .«starting_lba») 0 t, le-ltb rel (e .«partition_2» .«starting_lba») b)
-
-  pub goes-to : (m ≡ 0 → ⊥) → e .«partition_1» .«starting_lba» + a < 2 ^ 32 → (e .«partition_2» .«starting_lba» ≡ 0 → ⊥) → rel < e .«partition_2» .«starting_lba»
-      → some (e .«partition_2» .«starting_lba») ≡ onwardFrom m a rel e
-  goes-to z h t b =
-      rw (ne-eqb m 0 z, lt-ltb (e .«partition_1» .«starting_lba» + a) (2 ^ 32) h, ne-eqb (e .«partition_2» .«starting_lba») 0 t, lt-ltb rel (e .«partition_2» .«starting_lba») b)
+  pub want-link : (r : ℕ) → gives (some r) ≡ followsIn m X rel h → firstAbsent x (looksFrom d X (m - 1) r) ≡ firstAbsent x (behind d X m rel h)
+  unfolding behind
+  want-link r q = go m (follows→facts m (X + rel) rel (h .«partition_1» .«starting_lba») (h .«partition_2» .«starting_lba») (some r) (sym q) .0) q
+    where
+      go : (m : ℕ) → 0 < m → gives (some r) ≡ followsIn m X rel h → firstAbsent x (looksFrom d X (m - 1) r) ≡ firstAbsent x (behind d X m rel h)
+      go zero z q = absurd (omega arith)
+      go (suc m) z q =
+          let i : suc m - 1 ≡ m = omega arith in
+          rw (← q) (ap (λ (j : ℕ). firstAbsent x (looksFrom d X j r)) i)
 
 -- from sector 0 on
 pub want-header-bad : (x : List ℕ) (h : HeaderRead) (r : Refusal) (f : MBRHeader → List ℕ) → h ≡ headerTold (headerOn (diskOf x)) → h .answer ≡ outcome.Refused r
@@ -199,22 +189,19 @@ wants-nothing d x g f h = read-like (diskOf x) d (f .width) (f .size) (all-there
 
 -- reading looks at no more than 26 sectors
 behind-few : (d : Disk) (X m rel : ℕ) (h : EBRHeader) → length (behind d X m rel h) ≤ m
-unfolding behind ahead
+unfolding behind
 behind-few d X zero rel h = omega arith
-behind-few d X (suc m) rel h =
-    go (λ r y. behind-few d X m r y) (ltb (h .«partition_1» .«starting_lba» + (X + rel)) (2 ^ 32)) (eqb (h .«partition_2» .«starting_lba») 0) (ltb rel (h .«partition_2» .«starting_lba»))
+behind-few d X (suc m) rel h = go (λ r y. behind-few d X m r y) (followsIn (suc m) X rel h)
   where
     look : ((r : ℕ) (y : EBRHeader) → length (behind d X m r y) ≤ m) → (r : ℕ) (b : Bool) (s : Said EBRHeader) → length (pick b ((X + r) ∷ ifGiven s (behind d X m r)) []) ≤ suc m
     look ih r true (gives y) = omega (arith, ih r y)
     look ih r true (refuses k) = omega arith
     look ih r false s = omega arith
 
-    go : ((r : ℕ) (y : EBRHeader) → length (behind d X m r y) ≤ m) → (p q b : Bool)
-        → length (pick p (pick q [] (pick b (looksFrom d X m (h .«partition_2» .«starting_lba»)) [])) []) ≤ suc m
-    go ih true true b = omega arith
-    go ih true false true = look ih (h .«partition_2» .«starting_lba») (ltb (X + h .«partition_2» .«starting_lba») (d .size)) (view d (X + h .«partition_2» .«starting_lba»))
-    go ih true false false = omega arith
-    go ih false q b = omega arith
+    go : ((r : ℕ) (y : EBRHeader) → length (behind d X m r y) ≤ m) → (s : Said (Option ℕ)) → length (ifGiven s (byLink [] (looksFrom d X m))) ≤ suc m
+    go ih (refuses k) = omega arith
+    go ih (gives none) = omega arith
+    go ih (gives (some r)) = look ih r (ltb (X + r) (d .size)) (view d (X + r))
 
 chain-few : (d : Disk) (o : Option MBRPartitionEntry) → length (chainLooks d o) ≤ 25
 unfolding chainLooks

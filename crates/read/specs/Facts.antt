@@ -1,9 +1,9 @@
 -- The facts that reading a disk amounts to; and the sectors that reading looks at. Assumes nothing.
-use Prim.Native.Nat.{ℕ, zero, suc, _+_, _^_}
+use Prim.Native.Nat.{ℕ, zero, suc, _+_}
 use mathlib.Core.List.{List, [], _∷_, _++_}
 use mathlib.Core.Option.{Option, none, some}
 use mathlib.Core.Path.{_≡_}
-use lib.Dec.{eqb, ltb}
+use lib.Dec.{ltb}
 use Rattle.base.specs.Pick.{pick}
 use Rattle.base.specs.Said.{Said, gives, refuses}
 use Rattle.entry.specs.declared.MBRPartitionEntry.{MBRPartitionEntry}
@@ -11,7 +11,7 @@ use Rattle.ebr.specs.declared.EBRHeader.{EBRHeader}
 use Rattle.mbr.specs.Mbr.{primaries, extendedOf}
 use Rattle.extract.specs.Disk.{Disk}
 use Rattle.table.specs.Table.{most, parts}
-use Rattle.chain.specs.Chain.{view}
+use Rattle.chain.specs.Chain.{view, byLink, followsIn}
 use Rattle.chain.specs.Facts.{seen, Holds}
 use Rattle.align.specs.Align.{usedStarts, alignment}
 use Rattle.read.specs.Read.{Table}
@@ -34,17 +34,10 @@ ifGiven (refuses k) f = []
 abbrev pub looking : {A : Type 0} → Disk → ℕ → Said A → (A → List ℕ) → List ℕ
 looking d a s f = pick (ltb a (d .size)) (a ∷ ifGiven s f) []
 
--- the sectors that the link of the EBR at X + rel leads to
-unfoldable pub ahead : (ℕ → List ℕ) → ℕ → MBRPartitionEntry → List ℕ
-ahead go rel link = pick (eqb (link .«starting_lba») 0) [] (pick (ltb rel (link .«starting_lba»)) (go (link .«starting_lba»)) [])
-
 -- the sectors that reading looks at behind the EBR h at X + rel, in its order; m is the number of EBRs still allowed
 unfoldable pub behind : Disk → ℕ → ℕ → ℕ → EBRHeader → List ℕ
 behind d X zero rel h = []
-behind d X (suc m) rel h =
-    pick (ltb (h .«partition_1» .«starting_lba» + (X + rel)) (2 ^ 32))
-    (ahead (λ r. looking d (X + r) (view d (X + r)) (behind d X m r)) rel (h .«partition_2»))
-    []
+behind d X (suc m) rel h = ifGiven (followsIn (suc m) X rel h) (byLink [] (λ r. looking d (X + r) (view d (X + r)) (behind d X m r)))
 
 -- those of the chain of an extended entry
 unfoldable pub chainLooks : Disk → Option MBRPartitionEntry → List ℕ

@@ -1,8 +1,8 @@
 // A table, read from an extract.
 use align::Aligned;
 use chain::Counted;
-use ebr::Entries;
-use ebr::Opened;
+use chain::Follows;
+use chain::Met;
 use entry::MBRPartitionEntry;
 use extract::Extract;
 use extract::Header;
@@ -18,7 +18,7 @@ use table::LinkLba;
 use table::LogicalPartition;
 use table::MBR;
 ghost use mathlib.Core.Path.{_≡_};
-ghost use Prim.Native.Nat.{_+_, _≤_, _<_};
+ghost use Prim.Native.Nat.{_≤_};
 ghost use lib.ListN.{length, take};
 ghost use Rattle.base.specs.Said.{gives, refuses, failure};
 ghost use Rattle.mbr.specs.Mbr.{found};
@@ -30,7 +30,7 @@ ghost use Rattle.chain.specs.Walk.{placesOf, counted, NotedAll, Fits, firstOf, 
 ghost use Rattle.align.specs.Align.{alignment};
 ghost use Rattle.read.specs.Read.{withChain, read, readSays, tableFor};
 ghost use Rattle.read.specs.Facts.{looked};
-ghost use Rattle.read.specs.Wanted.{firstAbsent, wantedSays, wantedSaid, onwardFrom, onwardSaid, looksFrom};
+ghost use Rattle.read.specs.Wanted.{firstAbsent, wantedSays, wantedSaid, looksFrom};
 ghost use Rattle.read.specs.Answers.{tableTold, finished};
 ghost use Rattle.starts.specs.Starts.{startsFound};
 
@@ -45,12 +45,6 @@ pub enum Want {
     Nothing,
     Sector(u32),
     Refused(Refusal),
-}
-
-// Where an EBR leads: to no other, or to one at a link's place.
-pub enum Onward {
-    Stop,
-    To(LinkLba),
 }
 
 fn no_table(k: u8) -> ReadAnswer
@@ -185,47 +179,24 @@ pub fn read_from(x: &[u8]) -> ReadAnswer
     }
 }
 
-// Where reading goes on behind an EBR at sector a.
-fn goes_on(e: Entries, a: u64, rel: LinkLba, left: usize) -> Onward
-    requires { ⌜ a < 8589934592 ⌝ }
-    ensures { λ r. ⌜ onwardSaid r ≡ onwardFrom left a (rel .0) e ⌝ }
-{
-    if left == 0 {
-        return Onward::Stop;
-    }
-    if 4294967296 <= e.partition_1.starting_lba as u64 + a {
-        return Onward::Stop;
-    }
-    let start = e.partition_2.starting_lba;
-    if start == 0 {
-        return Onward::Stop;
-    }
-    if start <= rel.0 {
-        return Onward::Stop;
-    }
-    Onward::To(LinkLba(start))
-}
-
 // The first sector without a record from the EBR at a link's place on.
 fn wanted_from(x: &[u8], n: usize, d: u32, base: DiskLba, rel: LinkLba, left: usize) -> Want
     requires { ⌜ (n ≡ count (now x)) × Good (now x) ⌝ }
     requires { ⌜ d ≡ diskSectors (now x) ⌝ }
     ensures { λ r. ⌜ wantedSaid r ≡ gives (firstAbsent (now (x .entry)) (looksFrom (diskOf (now (x .entry))) (base .0) left (rel .0))) ⌝ }
 {
-    let a = chain::place(base, rel);
-    if d as u64 <= a {
-        return Want::Nothing;
-    }
-    let r = extract::record_of(x, n, a as u32);
-    if r.len() == 0 {
-        return Want::Sector(a as u32);
-    }
-    match ebr::open(r) {
-        Opened::Shut(_) => Want::Nothing,
-        Opened::Ebr(e) => match goes_on(e, a, rel, left) {
-            Onward::Stop => Want::Nothing,
-            Onward::To(next) => wanted_from(x, n, d, base, next, left - 1),
-        },
+    match chain::open_at(x, n, d, base, rel) {
+        Met::Shut(_) => Want::Nothing,
+        Met::Absent(a) => Want::Sector(a.0),
+        Met::Ebr(h) => {
+            let at = h.at;
+            let link = h.link;
+            match chain::what_follows(left, at, rel, h.start, link) {
+                Follows::Refused(_) => Want::Nothing,
+                Follows::End => Want::Nothing,
+                Follows::Link(next) => wanted_from(x, n, d, base, next, left - 1),
+            }
+        }
     }
 }
 
@@ -250,14 +221,10 @@ fn wanted_of(x: &[u8], n: usize, size: u32) -> Want
             let header = h.header;
             match header.get_extended_partition() {
                 Found::Nothing => Want::Nothing,
-                Found::Entry(e) => wanted_from(
-                    x,
-                    n,
-                    size,
-                    DiskLba(e.starting_lba),
-                    LinkLba(0),
-                    LOGICALS,
-                ),
+                Found::Entry(e) => {
+                    let base = chain::area_of(e);
+                    wanted_from(x, n, size, base, LinkLba(0), LOGICALS)
+                }
             }
         }
     }

@@ -4,7 +4,7 @@ use mathlib.Core.Bool.{true}
 use Rattle.ebr.specs.Ebr.{noKept, ebrBytes}
 use Rattle.mbr.specs.Mbr.{extendedOf}
 use Rattle.table.specs.Table.{slots}
-use Rattle.chain.specs.Chain.{view, placed, follow, chain, logicalsOf}
+use Rattle.chain.specs.Chain.{view, placed, follows, chain, logicalsOf}
 use Rattle.align.specs.Align.{usedStarts, dividesAll, largest, divisorTo, alignment}
 use Rattle.read.specs.Read.{headerOn, withChain, read, tableOf}
 use Rattle.push.specs.Address.{complete, addressed}
@@ -21,5 +21,5 @@ use Rattle.starred.specs.Disks.{diskWith, blank, plainDisk, ebrK, K, ask
 use Rattle.starred.specs.Starred.{rows, every}
 
 pub starred-hold : every rows ≡ true
-unfolding noKept ebrBytes extendedOf slots view placed follow chain logicalsOf usedStarts dividesAll largest divisorTo alignment headerOn withChain read tableOf complete addressed rounded fresh newLogical roundChecks placeChecks endChecks geometryChecks pushChecks allb pairsb rowb areaStart areaEnd end signedb flagsb addressesb startsb sizesb onDiskb allApartb oneExtendedb ownedb logicalsUsedb logicalsPlainb logicalsSizedb afterEbrb endsb firstAtb ascendb linksSizedb linksEndb linksCoverb soundRules soundb write sort insert free eachRun primaryZones logicalZones ends pairs apart kept roomy lastOf pushStores tooWide askChecks lastEnd spaceChecks pushRefusals pushChange carefulPush diskWith blank plainDisk ebrK K asked request summary pushedOnK
+unfolding noKept ebrBytes extendedOf slots view placed follows chain logicalsOf usedStarts dividesAll largest divisorTo alignment headerOn withChain read tableOf complete addressed rounded fresh newLogical roundChecks placeChecks endChecks geometryChecks pushChecks allb pairsb rowb areaStart areaEnd end signedb flagsb addressesb startsb sizesb onDiskb allApartb oneExtendedb ownedb logicalsUsedb logicalsPlainb logicalsSizedb afterEbrb endsb firstAtb ascendb linksSizedb linksEndb linksCoverb soundRules soundb write sort insert free eachRun primaryZones logicalZones ends pairs apart kept roomy lastOf pushStores tooWide askChecks lastEnd spaceChecks pushRefusals pushChange carefulPush diskWith blank plainDisk ebrK K asked request summary pushedOnK
 starred-hold = refl

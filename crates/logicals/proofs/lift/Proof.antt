@@ -10,8 +10,8 @@ use Rattle.logicals.proofs.lift.Tie as tie
 part-at-requires : tie.Need-part-at-requires
 part-at-requires c κs = search needs
 
-lba-at-requires : tie.Need-lba-at-requires
-lba-at-requires c κs = search needs
+place-of-requires : tie.Need-place-of-requires
+place-of-requires c κs = search needs
 
 record-at-requires : tie.Need-record-at-requires
 record-at-requires c κs = search needs
@@ -24,9 +24,9 @@ kept-of-requires c κs =
 
 returns : tie.Need-returns
 unfolding placed
-returns c = rw (c .kept-of .ensures, c .before .before .before .lba-at .ensures, c .before .before .before .before .part-at .ensures, c .before .before .record-at .ensures)
+returns c = rw (c .kept-of .ensures, c .before .before .before .place-of .ensures, c .before .before .before .before .part-at .ensures, c .before .before .record-at .ensures)
 
 pub lift-spec : {M : Type 1} → statement M
 lift-spec =
     tie.close
-    (tie.spec part-at-requires lba-at-requires record-at-requires kept-of-requires returns)
+    (tie.spec part-at-requires place-of-requires record-at-requires kept-of-requires returns)

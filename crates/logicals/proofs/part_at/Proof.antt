@@ -13,11 +13,11 @@ use Rattle.logicals.proofs.part_at.Tie as tie
 use Rattle.logicals.proofs.part_at.Reads as reads
 use Rattle.logicals.proofs.part_at.Lts as lts
 use Rattle.entryread.proofs.read.Reads as read-reads
-use Rattle.extract.proofs.lba_at.Reads as lba-at-reads
+use Rattle.chain.proofs.place_of.Reads as place-of-reads
 use Rattle.extract.proofs.record_at.Reads as record-at-reads
 
-lba-at-requires : tie.Need-lba-at-requires
-lba-at-requires c κs = search needs
+place-of-requires : tie.Need-place-of-requires
+place-of-requires c κs = search needs
 
 record-at-requires : tie.Need-record-at-requires
 record-at-requires c κs = search needs
@@ -30,16 +30,16 @@ read-requires c κs =
 
 add-p : tie.Need-add-p
 add-p c =
-    let s = c .before .before .before .before .before in
+    let s = c .before .before .before .before .before .before in
     let f = s .pre .1 .fits in
-    let e = ap (λ (y : MBRPartitionEntry). y .«starting_lba») (c .before .read .ensures ∙ ap (λ (r : List ℕ). entryAt r 446) (c .before .before .record-at .ensures)) in
-    let b = c .before .before .before .lba-at .ensures in
+    let e = ap (λ (y : MBRPartitionEntry). y .«starting_lba») (c .before .before .read .ensures ∙ ap (λ (r : List ℕ). entryAt r 446) (c .before .before .before .record-at .ensures)) in
+    let b = c .before .before .before .before .place-of .ensures in
     omega arith
 
 returns : tie.Need-returns
-returns c = rw (c .before .read .ensures, c .before .before .before .lba-at .ensures, c .before .before .record-at .ensures)
+returns c = rw (c .before .before .read .ensures, c .before .before .before .before .place-of .ensures, c .before .before .before .record-at .ensures)
 
 pub part-at-spec : {M : Type 1} → statement M
 part-at-spec =
     tie.close
-    (tie.spec lba-at-requires record-at-requires read-requires add-p returns)
+    (tie.spec place-of-requires record-at-requires read-requires add-p returns)

@@ -63,6 +63,9 @@ enum-told-3 c = search needs
 enum-known-e : tie.Need-enum-known-e
 enum-known-e c = search needs
 
+area-of-requires : tie.Need-area-of-requires
+area-of-requires c κs = search needs
+
 wanted-from-requires : tie.Need-wanted-from-requires
 wanted-from-requires c κs = search needs
 
@@ -93,17 +96,17 @@ returns-4 c =
 
 returns-5 : tie.Need-returns-5
 returns-5 c =
-    let s = c .before .before .before .before .before .before .before .before .before .before .before .before .before in
+    let s = c .before .before .before .before .before .before .before .before .before .before .before .before .before .before in
     let x = s .args .x .now in
     let d = diskOf x in
     let f : MBRHeader → List ℕ = λ h. chainLooks d (extendedOf (primaries h)) in
-    let h = above (c .before .before .before .before .before .before .before .before .before .before .before .if1 .left) (s .pre .1) in
-    let nz = there (c .before .before .before .before .before .before .before .before .before .if2 .left) (c .before .before .before .before .before .before .before .before .before .before .record-of .ensures) in
-    let t = c .before .before .before .before .before .before .before .before .header-of in
-    let o = sym (c .before .before .before .before .get-extended-partition .ensures) ∙ ap found (c .before .before .e .given .1) in
-    c .wanted-from .ensures
+    let h = above (c .before .before .before .before .before .before .before .before .before .before .before .before .if1 .left) (s .pre .1) in
+    let nz = there (c .before .before .before .before .before .before .before .before .before .before .if2 .left) (c .before .before .before .before .before .before .before .before .before .before .before .record-of .ensures) in
+    let t = c .before .before .before .before .before .before .before .before .before .header-of in
+    let o = sym (c .before .before .before .before .before .get-extended-partition .ensures) ∙ ap found (c .before .before .before .e .given .1) in
+    rw (c .before .area-of .ensures) at (c .wanted-from .ensures)
     ∙ ap gives
-    (want-chain x d (extendedOf (primaries (t .result .header))) (c .before .before .e .given .0 .0) o ∙ want-header x (t .result) f (t .ensures) (c .before .before .before .before .before .before .enum-told2 .given .1)
+    (want-chain x d (extendedOf (primaries (t .result .header))) (c .before .before .before .e .given .0 .0) o ∙ want-header x (t .result) f (t .ensures) (c .before .before .before .before .before .before .before .enum-told2 .given .1)
     ∙ want-there x 0 (headerOn d) f h nz ∙ want-looked x)
 
 pub wanted-of-spec : {M : Type 1} → statement M
@@ -119,6 +122,7 @@ wanted-of-spec =
     get-extended-partition-requires
     enum-told-3
     enum-known-e
+    area-of-requires
     wanted-from-requires
     returns-3
     returns-4

@@ -6,7 +6,7 @@ use table::MBR;
 ghost use mathlib.Core.Path.{_≡_};
 ghost use Rattle.lookup.specs.Numbers.{kindOf, getSays, lenSays, gotSaid, countSaid};
 
-// What a partition number names; a logical partition is counted from 0 here.
+// What a partition number names: nothing, a primary by its number from 1 to 4, a logical partition counted from 0.
 pub enum Kind {
     Nothing,
     Primary(usize),
@@ -32,8 +32,8 @@ pub struct TableAnswer {
     pub table: MBR,
 }
 
-// One decision over 0, 1 to 4, 5 and up.
-fn kind_of(i: usize) -> Kind
+// The decision over partition numbers 0, 1 to 4, 5 and up.
+pub fn kind_of(i: usize) -> Kind
     ensures { λ r. ⌜ r ≡ kindOf i ⌝ }
 {
     match i {

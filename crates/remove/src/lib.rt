@@ -1,5 +1,6 @@
 // Removal of a logical partition by its number.
 use base::Answer;
+use lookup::Kind;
 use table::LogicalPartition;
 use table::MBR;
 ghost use mathlib.Core.Path.{_≡_};
@@ -37,10 +38,9 @@ pub fn remove(t: MBR, number: usize) -> Removal
     if table::LOGICALS < n {
         return keep(t, 6);
     }
-    if number < 5 {
+    let Kind::Logical(k) = lookup::kind_of(number) else {
         return keep(t, 17);
-    }
-    let k = number - 5;
+    };
     if n <= k {
         return keep(t, 17);
     }

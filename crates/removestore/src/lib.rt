@@ -1,5 +1,6 @@
 // A careful removal from a table that was read: its refusals, else its store. Internal.
 use entry::MBRPartitionEntry;
+use lookup::Kind;
 use mbr::Found;
 use mbr::MBRHeader;
 use pushstore::ROOM;
@@ -33,10 +34,10 @@ pub fn remove_on(t: MBR, number: usize, out: &mut [u8]) -> Changed
     if !issound::is_sound(t) {
         return Changed::Refused(20);
     }
-    if number < 5 {
+    let Kind::Logical(k) = lookup::kind_of(number) else {
         return Changed::Refused(17);
-    }
-    if t.count <= number - 5 {
+    };
+    if t.count <= k {
         return Changed::Refused(17);
     }
     if out.len() < ROOM {
@@ -44,6 +45,6 @@ pub fn remove_on(t: MBR, number: usize, out: &mut [u8]) -> Changed
     }
     let header = t.header;
     let e = area_of(header);
-    removewrite::put_removal(out, t, e, number - 5);
+    removewrite::put_removal(out, t, e, k);
     Changed::Stores(1)
 }

@@ -1,5 +1,6 @@
 // The entry of a partition number, in a block where it lies. Internal: the block has passed its checks.
 use lookup::Got;
+use lookup::Kind;
 ghost use mathlib.Core.Path.{_≡_};
 ghost use Prim.Native.Nat.{_≤_};
 ghost use lib.ListN.{length};
@@ -11,14 +12,14 @@ pub fn get(b: &[u8], number: usize) -> Got
     requires { ⌜ (length (now b) ≡ 12084) × (tableIn (now b) .count ≤ 24) ⌝ }
     ensures { λ r. ⌜ gotSaid r ≡ getSays (tableIn (now (b .entry))) number ⌝ }
 {
-    if number == 0 {
-        return Got::Nothing;
+    match lookup::kind_of(number) {
+        Kind::Nothing => Got::Nothing,
+        Kind::Primary(i) => Got::Entry(inside::primary(b, i - 1)),
+        Kind::Logical(k) => {
+            if inside::count(b) <= k {
+                return Got::Nothing;
+            }
+            Got::Entry(inside::logical(b, k))
+        }
     }
-    if number < 5 {
-        return Got::Entry(inside::primary(b, number - 1));
-    }
-    if inside::count(b) <= number - 5 {
-        return Got::Nothing;
-    }
-    Got::Entry(inside::logical(b, number - 5))
 }

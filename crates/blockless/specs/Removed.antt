@@ -6,13 +6,20 @@ use Rattle.base.specs.Checks.{answer}
 use Rattle.table.specs.declared.MBR.{MBR}
 use Rattle.inblock.specs.Changed.{withoutSlot, withoutEntry}
 use Rattle.remove.specs.Remove.{removeChecks}
-use lib.Dec.{ltb}
-use Rattle.base.specs.Pick.{pick}
+use Rattle.lookup.specs.declared.Kind.{Kind}
+use Rattle.lookup.specs.declared.Kind.the-variants.{Nothing, Primary, Logical}
+use Rattle.lookup.specs.Numbers.{kindOf}
 
 -- removal of a logical partition by its number
 abbrev pub removedOn : List ℕ → ℕ → MBR → Said (List ℕ)
 removedOn b n t = answer (removeChecks t n) (withoutSlot b (t .count) (n - 5))
 
--- the block of a table with so many logical partitions, without partition number n
+-- the block of a table with so many logical partitions, without what a number names
+abbrev pub withoutKindOn : List ℕ → ℕ → Kind → List ℕ
+withoutKindOn b count Nothing = b
+withoutKindOn b count (Primary i) = withoutEntry b i
+withoutKindOn b count (Logical k) = withoutSlot b count k
+
+-- the block without partition number n
 abbrev pub withoutNumber : List ℕ → ℕ → ℕ → List ℕ
-withoutNumber b count n = pick (ltb n 5) (withoutEntry b n) (withoutSlot b count (n - 5))
+withoutNumber b count n = withoutKindOn b count (kindOf n)

@@ -1,4 +1,5 @@
 // Removal of a partition by its number from a block, where it lies.
+use lookup::Kind;
 ghost use mathlib.Core.Path.{_≡_};
 ghost use mathlib.Core.Option.{none};
 ghost use Prim.Native.Nat.{_<_, _+_, _≤_};
@@ -15,11 +16,10 @@ pub fn remove_on(b: &mut [u8], i: u32) -> u8
     ensures { λ r. ⌜ r ≡ number (removedOn (now (b .entry)) i (tableIn (now (b .entry)))) ⌝ }
     ensures { λ r. ⌜ now (b .exit) ≡ valueOr (now (b .entry)) (removedOn (now (b .entry)) i (tableIn (now (b .entry)))) ⌝ }
 {
-    if i < 5 {
+    let Kind::Logical(k) = lookup::kind_of(i as usize) else {
         return 17;
-    }
+    };
     let n = inside::count(b);
-    let k = i as usize - 5;
     if n <= k {
         return 17;
     }
@@ -29,13 +29,15 @@ pub fn remove_on(b: &mut [u8], i: u32) -> u8
 
 // A block without partition number n.
 pub fn remove_number(b: &mut [u8], n: usize)
-    requires { ⌜ (length (now b) ≡ 12084) × (tableIn (now b) .count ≤ 24) × (1 ≤ n) × (n < 5 + tableIn (now b) .count) ⌝ }
+    requires { ⌜ (length (now b) ≡ 12084) × (tableIn (now b) .count ≤ 24) × (n < 5 + tableIn (now b) .count) ⌝ }
     ensures { λ _. ⌜ now (b .exit) ≡ withoutNumber (now (b .entry)) (tableIn (now (b .entry)) .count) n ⌝ }
 {
-    if n < 5 {
-        inplace::clear_primary(b, n);
-        return;
+    match lookup::kind_of(n) {
+        Kind::Nothing => {}
+        Kind::Primary(i) => inplace::clear_primary(b, i),
+        Kind::Logical(k) => {
+            let count = inside::count(b);
+            slotdrop::drop_slot(b, count, k);
+        }
     }
-    let count = inside::count(b);
-    slotdrop::drop_slot(b, count, n - 5);
 }

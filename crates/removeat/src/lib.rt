@@ -1,6 +1,7 @@
 // Removal of the partition that holds a sector.
 use base::Answer;
 use bysector::Spot;
+use lookup::Kind;
 use lookup::TableAnswer;
 use table::MBR;
 ghost use mathlib.Core.Path.{_≡_};
@@ -21,17 +22,19 @@ pub fn remove_at_sector(t: MBR, sector: u32) -> TableAnswer
             answer: Answer::Refused(15),
             table: t,
         },
-        Spot::Number(n) => {
-            if n < 5 {
-                return TableAnswer {
-                    answer: Answer::Done,
-                    table: less::without_primary(t, n),
-                };
-            }
-            TableAnswer {
+        Spot::Number(n) => match lookup::kind_of(n) {
+            Kind::Nothing => TableAnswer {
                 answer: Answer::Done,
-                table: less::shifted(t, n - 5),
-            }
-        }
+                table: t,
+            },
+            Kind::Primary(i) => TableAnswer {
+                answer: Answer::Done,
+                table: less::without_primary(t, i),
+            },
+            Kind::Logical(k) => TableAnswer {
+                answer: Answer::Done,
+                table: less::shifted(t, k),
+            },
+        },
     }
 }

@@ -1,9 +1,8 @@
 use mathlib.Core.Path.{sym, ap, _∙_}
-use Rattle.block.specs.Block.{tableIn}
 use Rattle.inblock.proofs.Alike.{passed}
 use Rattle.bysector.specs.Find.{spotSaid}
 use Rattle.onblock.proofs.Laws.{block-length, block-good}
-use Rattle.blockat.proofs.Changed.{found-above, found-below, at-refused, at-none, at-done}
+use Rattle.blockat.proofs.Changed.{found-below, at-refused, at-none, at-done}
 use borrow.Author.Needs.{needs}
 use Rattle.blockat.proofs.remove_at_on.Statement.{statement}
 use Rattle.blockat.proofs.remove_at_on.Tie as tie
@@ -25,7 +24,7 @@ remove-number-requires c κs =
     let s = c .before .before .before .before .before .before .before in
     let b = s .args .b .now in
     let e = sym (c .before .before .before .before .find .ensures) ∙ ap spotSaid (c .before .before .n .given .1) in
-    (block-length b (s .pre), passed b (s .pre) .few, found-above (tableIn b) (s .args .sector) _ e, found-below b (s .args .sector) _ e)
+    (block-length b (s .pre), passed b (s .pre) .few, found-below b (s .args .sector) _ e)
 
 same-length : tie.Need-same-length
 same-length c = search needs

@@ -1,8 +1,9 @@
 use lib.ListN.{length, length-map}
+use native.Mathlib.Omega.{arith}
+use Rattle.lookup.proofs.Decision.{names}
 use Rattle.bysector.proofs.Search.{found-logical}
 use Rattle.removeat.specs.RemoveAt.{removeAtSays}
 use Rattle.bysector.specs.Find.{spotSaid}
-use borrow.Author.Tests.{lt-ltb, le-ltb}
 use mathlib.Core.Path.{_≡_, sym, ap, _∙_}
 use borrow.Author.Needs.{needs}
 use Rattle.removeat.proofs.remove_at_sector.Statement.{statement}
@@ -20,39 +21,62 @@ enum-told c = search needs
 enum-known-n : tie.Need-enum-known-n
 enum-known-n c = search needs
 
+kind-of-requires : tie.Need-kind-of-requires
+kind-of-requires c κs = search needs
+
+enum-told-2 : tie.Need-enum-told-2
+enum-told-2 c = search needs
+
+enum-known-i : tie.Need-enum-known-i
+enum-known-i c = search needs
+
 without-primary-requires : tie.Need-without-primary-requires
 without-primary-requires c κs = search needs
+
+enum-known-k-2 : tie.Need-enum-known-k-2
+enum-known-k-2 c = search needs
+
+shifted-requires : tie.Need-shifted-requires
+shifted-requires c κs =
+    let f = sym (c .before .before .before .before .before .before .before .find-at-sector .ensures) ∙ ap spotSaid (c .before .before .before .before .before .n .given .1) in
+    let s = c .before .before .before .before .before .before .before .before in
+    let n = names (c .before .before .before .before .before .n .given .0 .0) _ (sym (c .before .before .before .kind-of .ensures) ∙ c .before .k2 .given .1) in
+    let l : length (s .args .t .«logical_partitions») ≡ 24 = sym (length-map (s .args .t .«logical_partitions») _) ∙ s .good .0 .1 .1 .1 .1 .0 .1 .0 .1 in
+    let w = found-logical (s .args .t) (s .args .sector) _ l f (n .1) in
+    (omega (arith, n .0, w .0), w .1)
 
 returns : tie.Need-returns
 unfolding removeAtSays
 returns c =
-    let f = sym (c .before .before .before .before .before .find-at-sector .ensures) ∙ ap spotSaid (c .before .before .before .n .given .1) in
-    (rw f, c .without-primary .ensures ∙ rw (f, lt-ltb _ _ (c .before .if1 .taken)))
-
-shifted-requires : tie.Need-shifted-requires
-shifted-requires c κs =
-    let f = sym (c .before .before .before .before .find-at-sector .ensures) ∙ ap spotSaid (c .before .before .n .given .1) in
-    let s = c .before .before .before .before .before in
-    let l : length (s .args .t .«logical_partitions») ≡ 24 = sym (length-map (s .args .t .«logical_partitions») _) ∙ s .good .0 .1 .1 .1 .1 .0 .1 .0 .1 in
-    found-logical (s .args .t) (s .args .sector) _ l f (c .if1 .left)
+    let f = sym (c .before .before .before .find-at-sector .ensures) ∙ ap spotSaid (c .before .k .given .1) in
+    (rw f, rw f)
 
 returns-2 : tie.Need-returns-2
 unfolding removeAtSays
 returns-2 c =
-    let f = sym (c .before .before .before .find-at-sector .ensures) ∙ ap spotSaid (c .before .k .given .1) in
+    let f = sym (c .before .before .find-at-sector .ensures) ∙ ap spotSaid (c .enum-told .given .1) in
     (rw f, rw f)
 
 returns-3 : tie.Need-returns-3
 unfolding removeAtSays
 returns-3 c =
-    let f = sym (c .before .before .find-at-sector .ensures) ∙ ap spotSaid (c .enum-told .given .1) in
-    (rw f, rw f)
+    let f = sym (c .before .before .before .before .before .before .find-at-sector .ensures) ∙ ap spotSaid (c .before .before .before .before .n .given .1) in
+    let e = sym (c .before .before .kind-of .ensures) ∙ c .enum-told2 .given .1 in
+    (rw f, rw (f, e))
 
 returns-4 : tie.Need-returns-4
 unfolding removeAtSays
 returns-4 c =
-    let f = sym (c .before .before .before .before .before .find-at-sector .ensures) ∙ ap spotSaid (c .before .before .before .n .given .1) in
-    (rw f, c .shifted .ensures ∙ rw (f, le-ltb _ _ (c .before .if1 .left)))
+    let f = sym (c .before .before .before .before .before .before .before .before .find-at-sector .ensures) ∙ ap spotSaid (c .before .before .before .before .before .before .n .given .1) in
+    let e = sym (c .before .before .before .before .kind-of .ensures) ∙ c .before .before .i .given .1 in
+    (rw f, c .without-primary .ensures ∙ rw (f, e))
+
+returns-5 : tie.Need-returns-5
+unfolding removeAtSays
+returns-5 c =
+    let f = sym (c .before .before .before .before .before .before .before .before .find-at-sector .ensures) ∙ ap spotSaid (c .before .before .before .before .before .before .n .given .1) in
+    let e = sym (c .before .before .before .before .kind-of .ensures) ∙ c .before .before .k2 .given .1 in
+    (rw f, c .shifted .ensures ∙ rw (f, e))
 
 pub remove-at-sector-spec : {M : Type 1} → statement M
 remove-at-sector-spec =
@@ -62,9 +86,14 @@ remove-at-sector-spec =
     enum-known-k
     enum-told
     enum-known-n
+    kind-of-requires
+    enum-told-2
+    enum-known-i
     without-primary-requires
-    returns
+    enum-known-k-2
     shifted-requires
+    returns
     returns-2
     returns-3
-    returns-4)
+    returns-4
+    returns-5)

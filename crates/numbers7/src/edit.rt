@@ -1,5 +1,6 @@
 // The table that a line hands in: what was read, with the line's six numbers and then its edits.
 use entry::MBRPartitionEntry;
+use lookup::Kind;
 use mbr::MBRHeader;
 use table::DiskLba;
 use table::LOGICALS;
@@ -133,15 +134,15 @@ fn edited(t: MBR, number: usize, field: usize, v: u32) -> MBR {
         return t;
     }
     let h = t.header;
-    if number == 0 {
-        return with_header(t, signed(h, v));
+    match lookup::kind_of(number) {
+        Kind::Nothing => with_header(t, signed(h, v)),
+        Kind::Primary(i) => with_header(t, primary(h, i, field, v)),
+        Kind::Logical(k) => {
+            let ls = t.logical_partitions;
+            let l = nth(ls, k);
+            with_logical(t, k, logical(l, field, v))
+        }
     }
-    if number < 5 {
-        return with_header(t, primary(h, number, field, v));
-    }
-    let ls = t.logical_partitions;
-    let l = nth(ls, number - 5);
-    with_logical(t, number - 5, logical(l, field, v))
 }
 
 // The four edits of a line; those that are missing are all zeros.

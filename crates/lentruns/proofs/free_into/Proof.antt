@@ -1,4 +1,4 @@
--- `runs::free_into` meets its contract: a walk of its MIR, by hand. `planned` says what is to be answered and how many runs are to be stored; the borrow is opened once, before the loop;
+-- `lentruns::free_into` meets its contract: a walk of its MIR, by hand. `planned` says what is to be answered and how many runs are to be stored; the borrow is opened once, before the loop;
 -- a turn takes the run from `run_of`, takes one element out of the row, stores to it and puts it back; and the borrow is closed at the new list once the loop is left.
 -- Assumes nothing.
 use mathlib.Core.Path.{_≡_, refl, sym, ap, subst, _∙_}

@@ -1,4 +1,4 @@
--- `runs::lent` meets its contract: a walk of its MIR, by hand. An array of thirty equal runs is made in a local, and lent as a slice for a lifetime that is made for the call; `free_into` is called, of which only the contract is known;
+-- `lentruns::lent` meets its contract: a walk of its MIR, by hand. An array of thirty equal runs is made in a local, and lent as a slice for a lifetime that is made for the call; `free_into` is called, of which only the contract is known;
 -- the lifetime is ended, and the array is had again at the last list that the contract says.
 -- Assumes nothing.
 use mathlib.Core.Path.{_≡_, refl, subst, _∙_}

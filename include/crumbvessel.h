@@ -222,7 +222,7 @@ uint64_t cv_get_maximum_partition_size_for(const uint8_t *block, size_t block_le
 
 /* Writes the table of a block over an extract, the new extract to `out`: its length, at most CV_EXTRACT(64); and the block
  * becomes that of the table as writing leaves it: its slots below the count and their tags are written, and no other byte
- * of it. 101, 6, 102 of the block; 1, 3, 4, 2, 7, 13, 14, 18, 22, 19. */
+ * of it; without an extended entry no byte of it at all. 101, 6, 102 of the block; 1, 3, 4, 2, 7, 13, 14, 18, 22, 19. */
 uint64_t cv_write_into(uint8_t *block, size_t block_length, const uint8_t *x, size_t x_length, uint8_t *out,
                        size_t out_length);
 

@@ -239,7 +239,7 @@ impl Archive {
         self.lent(answer)
     }
 
-    /// What the archive says of X without a case's word for it: the listing, the sector that is wanted, the check, what
+    /// What the archive says of a whole extract: the listing, the sector that is wanted, the check, what
     /// looking up a sector answers.
     pub fn of_extract(x: &[u8], lba: u32) -> (String, u64, u8, u8) {
         let mut out = vec![FILL; 2048 + x.len() % 7];

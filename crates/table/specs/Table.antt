@@ -28,11 +28,11 @@ use Rattle.table.specs.declared.MBR.{MBR}
 abbrev pub most : ℕ
 most = 24
 
--- the default alignment (rule A10)
+-- the default alignment (rule A1)
 abbrev pub defaultAlign : ℕ
 defaultAlign = 2048
 
--- the greatest alignment (rules A4 and A11)
+-- the greatest alignment (rule A4)
 abbrev pub greatestAlign : ℕ
 greatestAlign = 16384
 

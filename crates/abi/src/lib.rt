@@ -1,5 +1,5 @@
 // The library for programs in C and Rust: functions on numbers and lent bytes. An answer is one number: the value in
-// the lower 32 bits, or document 01's number in the upper 32. Every name starts with `cv_`.
+// the lower 32 bits, or the refusal's number in the upper 32 (rules Z19, Z20). Every name starts with `cv_`.
 use extract::Header;
 use listing::Listed;
 ghost use mathlib.Core.Path.{_≡_};

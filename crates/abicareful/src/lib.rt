@@ -1,5 +1,5 @@
 // The careful changes for programs in C and Rust: an extract in, stores out. No table crosses. An answer is one number
-// as in `abi`: the number of stores in the lower 32 bits, or document 01's number in the upper 32.
+// as in `abi`: the number of stores in the lower 32 bits, or the refusal's number in the upper 32 (rule Z19).
 use change::Changed;
 use push::Geometry;
 use push::Request;

@@ -15,7 +15,7 @@ use Rattle.table.specs.declared.MaybeChs.the-variants.{Absent as NoChs, Present
 use Rattle.table.specs.declared.LogicalPartition.{LogicalPartition}
 use Rattle.address.specs.declared.Geometry.{Geometry}
 
--- check_geometry: cylinders 1 to 1,023, heads at least 1, sectors 1 to 63
+-- rules U12 to U14: cylinders 1 to 1,023, heads at least 1, sectors 1 to 63
 unfoldable pub complete : Geometry → Bool
 complete g = ltb 0 (g .cylinders) && leb (g .cylinders) 1023 && ltb 0 (g .heads) && ltb 0 (g .sectors) && leb (g .sectors) 63
 
@@ -35,7 +35,7 @@ addressChecks g a =
     ∷ (14 ! leb (a / (g .heads * g .sectors)) (g .cylinders))
     ∷ []
 
--- those of the last of n sectors from a on: 7 for the sum, and where minus one leaves it below 0
+-- rules U6 to U8: those of the last of n sectors from a on, 7 for the sum, and where minus one leaves it below 0
 abbrev pub lastChecks : Geometry → ℕ → ℕ → List Check
 lastChecks g a n = (7 ! fits (a + n)) ∷ (7 ! ltb 0 (a + n)) ∷ addressChecks g (a + n - 1)
 
@@ -44,7 +44,7 @@ abbrev pub linkChecks : Geometry → ℕ → MaybeSectors → List Check
 linkChecks g a Absent = []
 linkChecks g a (Present n) = lastChecks g a n
 
--- the partition's first and last sector, the EBR, the link's last sector
+-- rule U9: the partition's first and last sector, the EBR, the link's last sector
 unfoldable pub updateChecks : Geometry → LogicalPartition → List Check
 updateChecks g l =
     addressChecks g (l .partition .«starting_lba»)
@@ -56,7 +56,7 @@ abbrev pub linkAddress : Geometry → ℕ → MaybeSectors → MaybeChs
 linkAddress g a Absent = NoChs
 linkAddress g a (Present n) = SomeChs (addressIn g (a + n - 1))
 
--- the partition with its four addresses, and nothing else altered
+-- rules U1 to U5, U10: the partition with its four addresses, and nothing else altered
 unfoldable pub addressed : Geometry → LogicalPartition → LogicalPartition
 addressed g l =
     record {
@@ -76,7 +76,7 @@ addressed g l =
       kept = l .kept;
     }
 
--- update_chs
+-- rules U1 to U11: update_chs
 unfoldable pub updateChs : Geometry → LogicalPartition → Said LogicalPartition
 updateChs g l = answer (updateChecks g l) (addressed g l)
 

@@ -1,4 +1,4 @@
--- What an address's answer says in document 01's numbers, and four addresses one after the other. Assumes nothing.
+-- What an address's answer says in the numbers of docs/RULES.md, and four addresses one after the other. Assumes nothing.
 use Prim.Native.Nat.{ℕ}
 use Rattle.base.specs.Said.{Said, gives, refuses, andThen}
 use Rattle.chs.specs.declared.CHS.{CHS}

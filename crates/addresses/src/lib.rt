@@ -61,7 +61,7 @@ fn update(g: Geometry, l: LogicalPartition) -> Updated
     settle(l, first, last, link, end)
 }
 
-// Alters a logical partition's four addresses and nothing else: each 7, 13, 14.
+// Alters a logical partition's four addresses and nothing else: each 7, 13, 14. Rules U1 to U11.
 pub fn update_chs(l: LogicalPartition, cylinders: u16, heads: u8, sectors: u8) -> Updated
     ensures { λ r. ⌜ refusal (r .answer) ≡ failure (updateChs (geometryIn cylinders heads sectors) l) ⌝ }
     ensures { λ r. ⌜ r .logical ≡ valueOr l (updateChs (geometryIn cylinders heads sectors) l) ⌝ }

@@ -30,14 +30,14 @@ blockLength = 12084
 unfoldable pub part : List ℕ → ℕ → ℕ → List ℕ
 part b at n = take n (drop at b)
 
--- an address: cylinder 2, head, sector
+-- rule Z12: an address, cylinder 2, head, sector
 abbrev pub chsPart : CHS → List ℕ
 chsPart c = bytesOf little 2 (c .cylinder) ++ (c .head ∷ c .sector ∷ [])
 
 abbrev pub chsIn : List ℕ → ℕ → CHS
 chsIn s at = chs (number little (bytesAt s at 2)) (getD s (at + 2) 0) (getD s (at + 3) 0)
 
--- an entry of 18: flag, first address, type, last address, start, sectors
+-- rule Z11: an entry of 18, flag, first address, type, last address, start, sectors
 abbrev pub entryPart : MBRPartitionEntry → List ℕ
 entryPart e =
     (e .boot ∷ []) ++ chsPart (e .«first_chs») ++ (e .sys ∷ []) ++ chsPart (e .«last_chs») ++ bytesOf little 4 (e .«starting_lba») ++ bytesOf little 4 (e .sectors)
@@ -53,7 +53,7 @@ entryIn s at =
       sectors = number little (bytesAt s (at + 14) 4);
     }
 
--- a value that may be absent: its bytes are zero then when written, and ignored when read
+-- rule Z16: a value that may be absent; its bytes are zero then when written, and ignored when read
 abbrev pub sectorsPart : MaybeSectors → List ℕ
 sectorsPart Absent = bytesOf little 4 0
 sectorsPart (Present v) = bytesOf little 4 v
@@ -62,7 +62,7 @@ abbrev pub lastPart : MaybeChs → List ℕ
 lastPart NoChs = chsPart noChs
 lastPart (SomeChs c) = chsPart c
 
--- a slot's tag tells which of the two is there: 1 the link sectors, 2 the last link address, 3 both, 0 none
+-- rule Z15: a slot's tag tells which of the two is there, 1 the link sectors, 2 the last link address, 3 both, 0 none
 abbrev pub sectorsTag : MaybeSectors → ℕ
 sectorsTag Absent = 0
 sectorsTag (Present v) = 1
@@ -80,7 +80,7 @@ sectorsIn tag s at = pick (eqb (tag % 2) 0) Absent (Present (number little (byte
 abbrev pub lastIn : ℕ → List ℕ → ℕ → MaybeChs
 lastIn tag s at = pick (ltb tag 2) NoChs (SomeChs (chsIn s at))
 
--- a slot of 480: entry, EBR place, link sectors, first and last link address, code
+-- rule Z13: a slot of 480, entry, EBR place, link sectors, first and last link address, code
 abbrev pub slotFront : LogicalPartition → List ℕ
 slotFront l =
     entryPart (l .partition) ++ bytesOf little 4 (l .«absolute_ebr_lba» .0) ++ sectorsPart (l .«ebr_sectors») ++ chsPart (l .«ebr_first_chs»)
@@ -101,7 +101,7 @@ slotOf tag s =
       kept = keptOf (part s 34 446);
     }
 
--- the header of 520: code, disk signature, copy mark, four entries, signature
+-- rule Z10: the header of 520, code, disk signature, copy mark, four entries, signature
 abbrev pub codePart : MBRHeader → List ℕ
 codePart h = h .«bootstrap_code» ++ h .«disk_signature» ++ h .«copy_protected»
 
@@ -125,13 +125,13 @@ headerIn s =
       «boot_signature» = bytesAt s 518 2;
     }
 
--- the front of 20: sector size, disk size, alignment, count, cylinders, heads, sectors
+-- rule Z9: the front of 20, sector size, disk size, alignment, count, cylinders, heads, sectors
 abbrev pub frontPart : ℕ → ℕ → ℕ → ℕ → ℕ → ℕ → ℕ → List ℕ
 frontPart size disk align count cylinders heads sectors =
     bytesOf little 4 size ++ bytesOf little 4 disk ++ bytesOf little 4 align ++ bytesOf little 4 count ++ bytesOf little 2 cylinders
     ++ (heads ∷ sectors ∷ [])
 
--- every slot, the unused ones too, and the tag of each
+-- rule Z17: every slot, the unused ones too, and the tag of each
 unfoldable pub slotsPart : List LogicalPartition → List ℕ
 slotsPart [] = []
 slotsPart (l ∷ ls) = slotPart l ++ slotsPart ls
@@ -140,7 +140,7 @@ unfoldable pub tagsPart : List LogicalPartition → List ℕ
 tagsPart [] = []
 tagsPart (l ∷ ls) = tagOf l ∷ tagsPart ls
 
--- the bytes of slot i, and its tag
+-- rule Z14: the bytes of slot i, and its tag
 abbrev pub slotAt : List ℕ → ℕ → List ℕ
 slotAt b i = part b (540 + 480 * i) 480
 
@@ -160,11 +160,11 @@ unfoldable pub slotsIn : List ℕ → ℕ → List LogicalPartition
 slotsIn b zero = []
 slotsIn b (suc n) = slotsIn b n ++ (slotOf (tagAt b n) (slotAt b n) ∷ [])
 
--- a tag from 0 to 3
+-- rule Z5: a tag from 0 to 3
 abbrev pub possible : ℕ → Bool
 possible tag = leb tag 3
 
--- n tags from that of slot i on are possible
+-- rule Z4: n tags from that of slot i on are possible
 unfoldable pub tagged : List ℕ → ℕ → ℕ → Bool
 tagged b i zero = true
 tagged b i (suc n) = possible (tagAt b i) && tagged b (suc i) n
@@ -190,11 +190,11 @@ tableIn b =
       «disk_size» = number little (bytesAt b 4 4);
     }
 
--- a table for a block: a count over the capacity 6, before everything else; then lent bytes of another length 101
+-- rules Z7, Z8: a table for a block; a count over the capacity 6, before everything else; then lent bytes of another length 101
 abbrev pub putChecks : MBR → ℕ → List Check
 putChecks t room = (6 ! leb (t .count) most) ∷ (101 ! eqb room blockLength) ∷ []
 
--- a block: another length 101, since it has no count to look at; a count over the capacity 6; an impossible tag 102
+-- rules Z1 to Z6: a block; another length 101, since it has no count to look at; a count over the capacity 6; an impossible tag 102
 abbrev pub blockChecks : List ℕ → List Check
 blockChecks b =
     (101 ! eqb (length b) blockLength) ∷ (6 ! leb (number little (bytesAt b 12 4)) most) ∷ (102 ! tagged b 0 most) ∷ []

@@ -37,11 +37,11 @@ pub record Change : Type 0 where
   pub stores : List Store
   pub result : Contents
 
--- a geometry that would be complete but for more than 63 sectors
+-- rules K5, K6: a geometry that would be complete but for more than 63 sectors
 unfoldable pub tooWide : Geometry → Bool
 tooWide g = ltb 0 (g .cylinders) && leb (g .cylinders) 1023 && ltb 0 (g .heads) && ltb 63 (g .sectors)
 
--- type 0, extended, or a complete geometry of more than 63 sectors: 23
+-- rules K3 to K5: type 0, extended, or a complete geometry of more than 63 sectors, 23
 unfoldable pub askChecks : Request → List Check
 askChecks q = (23 ! used (q .sys)) ∷ (23 ! not (extended (q .sys))) ∷ (23 ! not (tooWide (q .geometry))) ∷ []
 
@@ -54,11 +54,11 @@ unfoldable pub lastEnd : List LogicalPartition → ℕ
 lastEnd [] = 0
 lastEnd (l ∷ ls) = end (lastOf l ls)
 
--- ends by the extended end, for a first one too: 12; starts at or after the last partition's end: 21
+-- rules K10, K11: ends by the extended end, for a first one too, 12; starts at or after the last partition's end, 21
 unfoldable pub spaceChecks : Request → Contents → List Check
 spaceChecks q t = (12 ! leb (placeOf q + sizeOf q) (areaEnd (extendedIn t))) ∷ (21 ! leb (lastEnd (t .logicals)) (placeOf q)) ∷ []
 
--- the refusals of a careful push, after reading's: 20, 23, all of push, 12, 21, 19
+-- rules K2 to K15: the refusals of a careful push, after reading's, 20, 23, all of push, 12, 21, 19
 unfoldable pub pushRefusals : ℕ → Request → Contents → List Check
 pushRefusals room q t =
     (20 ! soundb t)
@@ -76,7 +76,7 @@ pushChange q t =
       result = relist t (firstPlace (areaOf t) (pushed q (t .logicals)));
     }
 
--- those of a careful removal, after reading's: 20, 17, 19
+-- rules V2 to V6: those of a careful removal, after reading's, 20, 17, 19
 unfoldable pub removeRefusals : ℕ → ℕ → Contents → List Check
 removeRefusals room n t =
     (20 ! soundb t) ∷ (17 ! leb 5 n) ∷ (17 ! ltb (n - 5) (length (t .logicals))) ∷ (19 ! leb roomNeeded room) ∷ []

@@ -10,7 +10,7 @@ use Rattle.table.specs.declared.LogicalPartition.{LogicalPartition}
 use Rattle.links.specs.Links.{write}
 unfoldable pub use Rattle.stored.specs.Stored.{wipe, moved}
 
--- the first-place rule: so is the first logical after the change
+-- rules K22 to K25, the first-place rule: so is the first logical after the change
 unfoldable pub firstPlace : MBRPartitionEntry → List LogicalPartition → List LogicalPartition
 firstPlace e [] = []
 firstPlace e (l ∷ ls) = moved e l ∷ ls
@@ -23,18 +23,18 @@ lastOf l (m ∷ ms) = lastOf m ms
 unfoldable pub leftOut : List LogicalPartition → ℕ → List LogicalPartition
 leftOut ls i = take i ls ++ drop (i + 1) ls
 
--- into an empty chain one record at X; else the new EBR, then the former last
+-- rules K16 to K20: into an empty chain one record at X; else the new EBR, then the former last
 unfoldable pub pushStores : MBRPartitionEntry → List LogicalPartition → LogicalPartition → List Store
 pushStores e [] new = write e (moved e new) none ∷ []
 pushStores e (l ∷ ls) new = write e new none ∷ write e (lastOf l ls) (some new) ∷ []
 
--- the EBR before the one at place i of those behind l
+-- rules V7, V8: the EBR before the one at place i of those behind l
 unfoldable pub skipStore : MBRPartitionEntry → LogicalPartition → List LogicalPartition → ℕ → Store
 skipStore e l [] i = write e l none
 skipStore e l (y ∷ ms) zero = write e l (next ms none)
 skipStore e l (y ∷ ms) (suc i) = skipStore e y ms i
 
--- the EBR before it; for the first, X now describes the second; for the only one, zeros at X
+-- rules V7 to V13: the EBR before it; for the first, X now describes the second; for the only one, zeros at X
 unfoldable pub removeStore : MBRPartitionEntry → List LogicalPartition → ℕ → Store
 removeStore e [] i = wipe e
 removeStore e (y ∷ []) zero = wipe e

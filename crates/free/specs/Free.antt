@@ -38,7 +38,7 @@ unfoldable pub every : (Run → Bool) → List Run → Bool
 every f [] = true
 every f (r ∷ rs) = f r && every f rs
 
--- a used entry as a run, its start counted from `at`; an unused one is none
+-- rule F3: a used entry as a run, its start counted from `at`; an unused one is none
 abbrev pub zone : ℕ → MBRPartitionEntry → List Run
 zone at e = pick (used (e .sys)) (run (at + e .«starting_lba») (e .sectors) ∷ []) []
 
@@ -46,17 +46,17 @@ unfoldable pub primaryZones : List MBRPartitionEntry → List Run
 primaryZones [] = []
 primaryZones (e ∷ es) = zone 0 e ++ primaryZones es
 
--- the crate adds the EBR's place to a start that is absolute already
+-- rule F25: the crate adds the EBR's place to a start that is absolute already
 unfoldable pub logicalZones : List LogicalPartition → List Run
 logicalZones [] = []
 logicalZones (l ∷ ls) = zone (l .«absolute_ebr_lba» .0) (l .partition) ++ logicalZones ls
 
--- the first and the last sector of each
+-- rule F4: the first and the last sector of each
 unfoldable pub ends : List Run → List ℕ
 ends [] = []
 ends (z ∷ zs) = z .start ∷ (z .start + z .length - 1) ∷ ends zs
 
--- start + sectors is a u32, and one can be taken off it
+-- rules F5, F6: start + sectors is a u32, and one can be taken off it
 abbrev pub whole : Run → Bool
 whole z = ltb 0 (z .start + z .length) && ltb (z .start + z .length) u32
 
@@ -64,24 +64,24 @@ whole z = ltb 0 (z .start + z .length) && ltb (z .start + z .length) u32
 abbrev pub positions : ℕ → ℕ → List Run → Said (List ℕ)
 positions from to zs = answer ((7 ! every whole zs) ∷ (7 ! ltb to u32) ∷ []) (from ∷ ends zs ++ (to ∷ []))
 
--- what lies between the two positions of each pair (a, b): start a + 1, length b − a − 1
+-- rules F11 to F13: what lies between the two positions of each pair (a, b): start a + 1, length b − a − 1
 unfoldable pub pairs : List ℕ → List Run
 pairs [] = []
 pairs (a ∷ []) = []
 pairs (a ∷ b ∷ ps) = run (a + 1) (b - a - 1) ∷ pairs ps
 
--- b − a − 1 is a u32 for each pair of ascending positions
+-- rule F13: b − a − 1 is a u32 for each pair of ascending positions
 unfoldable pub apart : List ℕ → Bool
 apart [] = true
 apart (a ∷ []) = true
 apart (a ∷ b ∷ ps) = ltb a b && apart ps
 
--- those that are not empty
+-- rules F14, F15: those that are not empty
 unfoldable pub kept : List Run → List Run
 kept [] = []
 kept (r ∷ rs) = pick (ltb 0 (r .length)) (r ∷ kept rs) (kept rs)
 
--- the start rounded up to the alignment
+-- rule F16: the start rounded up to the alignment
 abbrev pub up : ℕ → Run → ℕ
 up align r = ((r .start - 1) / align + 1) * align
 
@@ -91,7 +91,7 @@ rounded align r = run (r .start + (up align r - r .start)) (r .length - (up alig
 abbrev pub inRange : ℕ → Run → Bool
 inRange align r = ltb (up align r) u32
 
--- the free runs of ascending positions
+-- rules F14 to F20: the free runs of ascending positions
 abbrev pub found : ℕ → List ℕ → Said (List Run)
 found align ps =
     answer ((7 ! apart ps) ∷ (7 ! every (inRange align) (kept (pairs ps))) ∷ [])
@@ -108,7 +108,7 @@ area align from to zs = between align (positions from to zs)
 abbrev pub joined : List Run → Said (List Run) → Said (List Run)
 joined rs v = andThen v (λ ss. gives (rs ++ ss))
 
--- the extended area: from X to its end
+-- rules F22 to F24: the extended area, from X to its end
 abbrev pub inner : ℕ → Option MBRPartitionEntry → List LogicalPartition → Said (List Run)
 inner align none ls = gives []
 inner align (some e) ls = area align (e .«starting_lba») (e .«starting_lba» + e .sectors) (logicalZones ls)
@@ -116,7 +116,7 @@ inner align (some e) ls = area align (e .«starting_lba») (e .«starting_lba» 
 abbrev pub outer : MBR → Said (List Run)
 outer t = area (t .align) 0 (t .«disk_size») (primaryZones (primaries (t .header)))
 
--- the free runs of a table
+-- rules F1, F2, F21: the free runs of a table
 unfoldable pub free : MBR → Said (List Run)
 free t =
     checked ((6 ! leb (t .count) most) ∷ (7 ! ltb 0 (t .align)) ∷ []) refuses
@@ -172,7 +172,7 @@ within align (some e) v = between align (closed v (e .«starting_lba» + e .sect
 abbrev pub freeIn : ℕ → Said (List ℕ) → Option MBRPartitionEntry → Said (List ℕ) → Said (List Run)
 freeIn align u o v = andThen (between align u) (λ rs. joined rs (within align o v))
 
--- what an answer says: 01's number, or the runs
+-- what an answer says: the refusal's number, or the runs
 abbrev pub said : Option ℕ → List Run → Said (List Run)
 said none rs = gives rs
 said (some k) rs = refuses k

@@ -94,7 +94,7 @@ fn points_of(h: MBRHeader, disk: u32) -> Points
     primary_points(one, two, three, four, disk)
 }
 
-// Free runs of a table, as the crate finds them.
+// Free runs of a table, as the crate finds them: rules F1 to F25.
 pub fn find_free_sectors(t: MBR) -> FreeAnswer
     ensures { λ r. ⌜ Told r (free t) × (r .runs .count ≤ mostRuns) ⌝ }
 {

@@ -8,7 +8,7 @@ ghost use lib.ListN.{length, replicate};
 ghost use Rattle.free.specs.Free.{mostRuns};
 ghost use Rattle.runs.specs.Runs.{freeCount, freeList, counted};
 
-// Free runs of a table, as the crate finds them, into the lent list: the runs found stand first, the rest is as it was.
+// Free runs of a table, as the crate finds them, into the lent list: the runs found stand first, the rest is as it was. Rules F26 to F32.
 pub fn free_into(t: MBR, runs: &mut [Run]) -> Counted
     ensures { λ r. ⌜ (counted r ≡ freeCount t (length (now (runs .entry)))) × (now (runs .exit) ≡ freeList t (now (runs .entry))) ⌝ }
 {

@@ -24,7 +24,7 @@ abbrev pub chsOrNo : MaybeChs → CHS
 chsOrNo NoChs = noChs
 chsOrNo (SomeChs c) = c
 
--- a written link has flag 00 and the extended entry's type; an ending one is 16 zeros
+-- rules W27 to W30, W32: a written link has flag 00 and the extended entry's type; an ending one is 16 zeros
 unfoldable pub linkEntry : ℕ → Next → MBRPartitionEntry
 linkEntry sys stop = noEntry
 linkEntry sys (to r k) =
@@ -37,7 +37,7 @@ linkEntry sys (to r k) =
       sectors = sectorsOr0 (k .sectors);
     }
 
--- the EBR of l with a link entry
+-- rules W25, W26, W33: the EBR of l with a link entry
 abbrev pub ebrWith : LogicalPartition → MBRPartitionEntry → EBRHeader
 ebrWith l link = record { kept = l .kept; «partition_1» = startingAt (start l - at l) (l .partition); «partition_2» = link }
 

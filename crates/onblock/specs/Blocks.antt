@@ -7,15 +7,15 @@ use Rattle.table.specs.declared.MBR.{MBR}
 use Rattle.packed.specs.Packed.{status}
 use Rattle.block.specs.Block.{tableIn, blockChecks}
 
--- the table in a lent block: 101, 6, 102
+-- rule Z24: the table in a lent block, 101, 6, 102
 abbrev pub blockSays : List ℕ → Said MBR
 blockSays b = answer (blockChecks b) (tableIn b)
 
--- the number of a refusal, or 0
+-- rule Z23: the number of a refusal, or 0
 abbrev pub number : {A : Type 0} → Said A → ℕ
 number s = status (failure s)
 
--- a block after a call that changes it where it lies: as before if it is refused
+-- rule Z25: a block after a call that changes it where it lies, as before if it is refused
 abbrev pub bytesAfter : List ℕ → (MBR → Said (List ℕ)) → List ℕ
 bytesAfter b f = valueOr b (andThen (blockSays b) f)
 

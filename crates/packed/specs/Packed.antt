@@ -1,4 +1,4 @@
--- How an answer crosses as one number: the value, or 4,294,967,296 times document 01's number. Assumes nothing.
+-- How an answer crosses as one number: the value, or 4,294,967,296 times the refusal's number. Assumes nothing.
 use Prim.Native.Nat.{ℕ, _*_, _<_, _≤_}
 use mathlib.Core.Bool.{Bool, true, false}
 use mathlib.Core.Option.{Option, none, some}
@@ -8,23 +8,23 @@ use Rattle.base.specs.Said.{Said, gives, refuses}
 abbrev pub upper : ℕ → ℕ
 upper k = k * 4294967296
 
--- a value below 4,294,967,296, or a refusal
+-- rule Z19: a value below 4,294,967,296, or a refusal
 abbrev pub packed : Said ℕ → ℕ
 packed (gives v) = v
 packed (refuses k) = upper k
 
--- a refusal, or 0
+-- rule Z22: a refusal, or 0
 abbrev pub status : Option ℕ → ℕ
 status none = 0
 status (some k) = k
 
--- nothing is 255 in the upper half, which is no refusal's number
+-- rule Z20: nothing is 255 in the upper half, which is no refusal's number
 abbrev pub packedOption : Said (Option ℕ) → ℕ
 packedOption (gives none) = upper 255
 packedOption (gives (some v)) = v
 packedOption (refuses k) = upper k
 
--- yes is 1, no is 0
+-- rule Z21: yes is 1, no is 0
 abbrev pub packedBool : Said Bool → ℕ
 packedBool (gives true) = 1
 packedBool (gives false) = 0

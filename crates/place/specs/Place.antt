@@ -34,7 +34,7 @@ abbrev pub spotted : Spot → Option Run
 spotted Nothing = none
 spotted (Free r) = some r
 
--- the runs that are long enough
+-- rule Q1: the runs that are long enough
 unfoldable pub roomy : ℕ → List Run → List Run
 roomy size [] = []
 roomy size (r ∷ rs) = pick (leb size (r .length)) (r ∷ roomy size rs) (roomy size rs)
@@ -48,7 +48,7 @@ lastOf [] = none
 lastOf (r ∷ []) = some r
 lastOf (r ∷ s ∷ rs) = lastOf (s ∷ rs)
 
--- the first of the smallest
+-- rule Q7: the first of the smallest
 abbrev pub smaller : Run → Option Run → Run
 smaller r none = r
 smaller r (some s) = pick (leb (r .length) (s .length)) r s
@@ -77,12 +77,12 @@ abbrev pub startOf : Option Run → Option ℕ
 startOf none = none
 startOf (some r) = some (r .start)
 
--- as far right in the run as the alignment lets it
+-- rules Q4, Q5: as far right in the run as the alignment lets it
 abbrev pub rightmost : ℕ → ℕ → Option Run → Option ℕ
 rightmost align size none = none
 rightmost align size (some r) = some ((r .start + r .length - size) / align * align)
 
--- the places in a list of runs
+-- rules Q2, Q3, Q6, Q8, Q9: the places in a list of runs
 abbrev pub startBy : Rule → ℕ → Said (List Run) → Said (Option ℕ)
 startBy rule size v = andThen v (λ rs. gives (startOf (chosen rule (roomy size rs))))
 
@@ -98,12 +98,12 @@ lastPlace t size = lastBy (t .align) size (free t)
 abbrev pub optimalPlace : MBR → ℕ → Said (Option ℕ)
 optimalPlace t size = startBy Smallest size (free t)
 
--- the largest size in whole alignments
+-- rules Q10, Q11: the largest size in whole alignments
 unfoldable pub largest : ℕ → List Run → ℕ
 largest align [] = 0
 largest align (r ∷ rs) = max (r .length / align * align) (largest align rs)
 
--- 16 if there is no run
+-- rule Q12: 16 if there is no run
 abbrev pub orSixteen : ℕ → List Run → Said ℕ
 orSixteen align [] = refuses 16
 orSixteen align (r ∷ rs) = gives (largest align (r ∷ rs))
@@ -114,19 +114,19 @@ sizeBy align v = andThen v (orSixteen align)
 abbrev pub maximumSize : MBR → Said ℕ
 maximumSize t = sizeBy (t .align) (free t)
 
--- the length of the first run that starts at p; 0 if there is none
+-- rule Q13: the length of the first run that starts at p; 0 if there is none
 unfoldable pub lengthAt : ℕ → List Run → ℕ
 lengthAt p [] = 0
 lengthAt p (r ∷ rs) = pick (eqb (r .start) p) (r .length) (lengthAt p rs)
 
--- start + sectors is formed only if there is a run
+-- rules Q15 to Q17: start + sectors is formed only if there is a run
 abbrev pub grown : MBRPartitionEntry → List Run → Said ℕ
 grown e [] = gives (e .sectors)
 grown e (r ∷ rs) =
     answer ((7 ! ltb (e .«starting_lba» + e .sectors) u32) ∷ (7 ! ltb (e .sectors + lengthAt (e .«starting_lba» + e .sectors) (r ∷ rs)) u32) ∷ [])
     (e .sectors + lengthAt (e .«starting_lba» + e .sectors) (r ∷ rs))
 
--- 15 if there is no such partition
+-- rule Q14: 15 if there is no such partition
 abbrev pub grownBy : Option MBRPartitionEntry → List Run → Said ℕ
 grownBy none rs = refuses 15
 grownBy (some e) rs = grown e rs

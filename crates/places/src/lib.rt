@@ -1,4 +1,4 @@
-// Places for a partition, over the free runs of a table.
+// Places for a partition, over the free runs of a table: rules Q1 to Q9.
 use base::Answer;
 use free::FreeAnswer;
 use place::Place;
@@ -16,8 +16,8 @@ pub fn start_by(f: FreeAnswer, rule: Rule, size: u32) -> Place
     ensures { λ r. ⌜ placeSaid r ≡ startBy rule size (freeSaid f) ⌝ }
 {
     let answer = f.answer;
-    if let Answer::Refused(k) = answer {
-        return Place::Refused(k);
+    if let Answer::Refused(number) = answer {
+        return Place::Refused(number);
     }
     let runs = f.runs;
     let Spot::Free(r) = place::spot_in(runs, rule, size) else {

@@ -1,4 +1,4 @@
--- What each answer of the crate says in document 01's numbers; check_geometry, get_cylinder_size. Assumes nothing.
+-- What each answer of the crate says in the numbers of docs/RULES.md; check_geometry, get_cylinder_size. Assumes nothing.
 use Prim.Native.Nat.{ℕ, _*_}
 use mathlib.Core.List.{[], _∷_}
 use mathlib.Core.Bool.{Bool}
@@ -24,7 +24,7 @@ use Rattle.push.specs.Push.{geometryOf}
 use Rattle.request.specs.Asked.{laterThan}
 pub use Rattle.address.specs.Answers.{geometryIn}
 
--- check_geometry and get_cylinder_size of a table: 6
+-- rules U15, U16: check_geometry and get_cylinder_size of a table, 6
 abbrev pub checkGeometrySays : MBR → Said Bool
 checkGeometrySays t = answer ((6 ! leb (t .count) most) ∷ []) (isComplete (geometryOf t))
 

@@ -24,7 +24,7 @@ use Rattle.address.specs.Address.{slotGeometry, byGeometry}
 unfoldable pub use Rattle.request.specs.Asked.{rounded, roundChecks, placeChecks, endChecks}
 pub use Rattle.request.specs.Asked.{placeOf, sizeOf, laterThan}
 
--- the new partition without its addresses; only a later one has link sectors and a last link CHS
+-- rules P22 to P31: the new partition without its addresses; only a later one has link sectors and a last link CHS
 unfoldable pub fresh : Bool → Request → LogicalPartition
 fresh later q =
     record {
@@ -48,7 +48,7 @@ fresh later q =
 unfoldable pub newLogical : Bool → Request → LogicalPartition
 newLogical later q = byGeometry (q .geometry) (fresh later q)
 
--- the addresses if the geometry is complete
+-- rule P18: the addresses if the geometry is complete
 unfoldable pub geometryChecks : Bool → Request → List Check
 geometryChecks later q = slotGeometry (q .geometry) (fresh later q)
 
@@ -60,7 +60,7 @@ abbrev pub orNone : Option MBRPartitionEntry → MBRPartitionEntry
 orNone none = noEntry
 orNone (some e) = e
 
--- push's refusals in their order, for the extended entry and n logical partitions
+-- rules P2 to P20: push's refusals in their order, for the extended entry and n logical partitions
 unfoldable pub pushChecks : Request → Option MBRPartitionEntry → ℕ → List Check
 pushChecks q o n =
     (8 ! isSome o)
@@ -75,7 +75,7 @@ pushChecks q o n =
 unfoldable pub pushed : Request → List LogicalPartition → List LogicalPartition
 pushed q ls = ls ++ newLogical (laterThan (length ls)) q ∷ []
 
--- the table by value: a count over 24 is 6 before all
+-- rule P1: the table by value, a count over 24 is 6 before all
 abbrev pub geometryOf : MBR → Geometry
 geometryOf t = record { cylinders = t .cylinders; heads = t .heads; sectors = t .sectors }
 
@@ -88,10 +88,10 @@ tableChecks t q = (6 ! leb (t .count) most) ∷ pushChecks q (extendedIn t) (t .
 unfoldable pub pushedTo : MBR → Request → MBR
 pushedTo t q = withLogicals t (set (t .«logical_partitions») (t .count) (newLogical (laterThan (t .count)) q)) (t .count + 1)
 
--- what push says: the new partition's number
+-- rule P34: what push says, the new partition's number
 unfoldable pub pushSays : MBR → ℕ → ℕ → ℕ → Said ℕ
 pushSays t sys start sectors = answer (tableChecks t (requestOf t sys start sectors)) (t .count + 5)
 
--- the table after push: as given if it is refused
+-- rules P32, P33, P35: the table after push, as given if it is refused
 unfoldable pub pushTable : MBR → ℕ → ℕ → ℕ → MBR
 pushTable t sys start sectors = checked (tableChecks t (requestOf t sys start sectors)) (λ k. t) (pushedTo t (requestOf t sys start sectors))

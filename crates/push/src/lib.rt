@@ -192,7 +192,7 @@ fn append(t: MBR, l: LogicalPartition) -> Pushed
     }
 }
 
-// Pushes a logical partition behind the others; its EBR is at the start, rounded up.
+// Pushes a logical partition behind the others; its EBR is at the start, rounded up. Rules P1 to P35.
 pub fn push(t: MBR, sys: u8, starting_lba: u32, sectors: u32) -> Pushed
     ensures { λ r. ⌜ pushSaid (r .answer) ≡ pushSays t sys «starting_lba» sectors ⌝ }
     ensures { λ r. ⌜ r .table ≡ pushTable t sys «starting_lba» sectors ⌝ }

@@ -10,6 +10,6 @@ use Rattle.chain.specs.Facts.{at}
 use Rattle.sound.specs.Sound.{end}
 use Rattle.stored.specs.Stored.{roomNeeded}
 
--- 12, 21 and 19 of a new partition
+-- rules K10 to K14: 12, 21 and 19 of a new partition
 abbrev pub spaceBehind : MBRPartitionEntry → LogicalPartition → LogicalPartition → ℕ → List Check
 spaceBehind e last new room = (12 ! leb (end new) (endOf e)) ∷ (21 ! leb (end last) (at new)) ∷ (19 ! leb roomNeeded room) ∷ []

@@ -1,4 +1,4 @@
--- What a rounded place's answer says in document 01's numbers. Assumes nothing.
+-- What a rounded place's answer says in the numbers of docs/RULES.md. Assumes nothing.
 use Prim.Native.Nat.{ℕ}
 use Rattle.base.specs.Said.{Said, gives, refuses}
 use Rattle.request.specs.declared.Place.{Place}

@@ -10,7 +10,7 @@ use Rattle.entry.specs.Entry.{endOf}
 use Rattle.request.specs.declared.Request.{Request}
 use Rattle.address.specs.Address.{fits}
 
--- a number above 0 rounded up to a multiple of the alignment
+-- rule P21: a number above 0 rounded up to a multiple of the alignment
 unfoldable pub rounded : ℕ → ℕ → ℕ
 rounded align n = ((n - 1) / align + 1) * align
 
@@ -21,12 +21,12 @@ placeOf q = rounded (q .align) (q .start)
 abbrev pub sizeOf : Request → ℕ
 sizeOf q = rounded (q .align) (q .sectors)
 
--- start and size rounded: each 7 for 0, for alignment 0 and for the product
+-- rules P3 to P7: start and size rounded, each 7 for 0, for alignment 0 and for the product
 unfoldable pub roundChecks : Request → List Check
 roundChecks q =
     (7 ! ltb 0 (q .start)) ∷ (7 ! ltb 0 (q .align)) ∷ (7 ! fits (placeOf q)) ∷ (7 ! ltb 0 (q .sectors)) ∷ (7 ! fits (sizeOf q)) ∷ []
 
--- its place in the extended entry e: doubled alignment 7, 9; start + alignment 7, 10; the end less doubled alignment 7, 11
+-- rules P8 to P14: its place in the extended entry e; doubled alignment 7, 9; start + alignment 7, 10; the end less doubled alignment 7, 11
 unfoldable pub placeChecks : Request → MBRPartitionEntry → List Check
 placeChecks q e =
     (7 ! fits (2 * q .align))
@@ -38,7 +38,7 @@ placeChecks q e =
     ∷ (11 ! leb (placeOf q) (endOf e - 2 * q .align))
     ∷ []
 
--- for a later one its end: 7, 12
+-- rules P15 to P17: for a later one its end, 7, 12
 unfoldable pub endChecks : Bool → Request → MBRPartitionEntry → List Check
 endChecks later q e = pick later ((7 ! fits (placeOf q + sizeOf q)) ∷ (12 ! leb (placeOf q + sizeOf q) (endOf e)) ∷ []) []
 

@@ -87,7 +87,7 @@ HasLink l = linkThere (l .«ebr_sectors») (l .«ebr_last_chs») ≡ true
 unfoldable pub contentsIn : List ℕ → Said Contents
 contentsIn x = andThen (readSays x) (λ u. gives (contents u))
 
--- written over x, of the table's sector size and D, into out: if n bytes are the answer, they read as the same header and the same list under the first-place rule
+-- rule W45: written over x, of the table's sector size and D, into out: if n bytes are the answer, they read as the same header and the same list under the first-place rule
 pub record RoundTrip (t : MBR) (x out : List ℕ) : Type 0 where
   pub returns : Returning t → Bytes x → sectorSize x ≡ t .«sector_size» → diskSectors x ≡ t .«disk_size» → (n : ℕ) → writeSays t x (length out) ≡ gives n
       → contentsIn (take n (writeLeaves t x out)) ≡ gives (inFirstPlace (contentsOf t))
@@ -95,7 +95,7 @@ pub record RoundTrip (t : MBR) (x out : List ℕ) : Type 0 where
   pub accepted : Returning t → t .count ≤ most → All HasLink (later (logicals t)) → AllHold (extractChecks x) → 0 < diskSectors x → diskSectors x ≡ t .«disk_size»
       → writeSays t x (length out) ≡ answer (roomChecks x (tableStores t) (length out)) (length (extractOver x (tableStores t)))
 
--- the exception: the only logical partition removed from the table that x reads as, and the rest written over x. Its chain is empty, no EBR is written, the old one reads back
+-- rule W46, the exception: the only logical partition removed from the table that x reads as, and the rest written over x. Its chain is empty, no EBR is written, the old one reads back
 pub record OldStays (x out : List ℕ) : Type 0 where
   pub stays : (u : Table) → readSays x ≡ gives u → length (u .logicals) ≡ 1 → Bytes x → (n : ℕ) → writeSays (removedTable (tableOf u) 5) x (length out) ≡ gives n
       → readSays (take n (writeLeaves (removedTable (tableOf u) 5) x out)) ≡ gives u

@@ -13,19 +13,19 @@ use Rattle.runs.specs.declared.Plan.{Plan}
 use Rattle.runs.specs.declared.Counted.{Counted}
 use Rattle.runs.specs.declared.Counted.the-variants.{Found, Refused}
 
--- the runs of a table for a list of n
+-- rules F26, F27: the runs of a table for a list of n
 unfoldable pub freeFor : MBR → ℕ → Said (List Run)
 freeFor t n = andThen (free t) (λ rs. answer ((19 ! leb mostRuns n) ∷ []) rs)
 
--- runs in the place of as many first elements of a list
+-- rules F29, F30: runs in the place of as many first elements of a list
 unfoldable pub first : List Run → List Run → List Run
 first rs l = rs ++ drop (length rs) l
 
--- what is answered: the number of runs
+-- rule F28: what is answered, the number of runs
 abbrev pub freeCount : MBR → ℕ → Said ℕ
 freeCount t n = andThen (freeFor t n) (λ rs. gives (length rs))
 
--- the lent list afterwards: a refusal leaves it as it was
+-- rules F31, F32: the lent list afterwards, a refusal leaves it as it was
 abbrev pub freeList : MBR → List Run → List Run
 freeList t l = first (valueOr [] (freeFor t (length l))) l
 

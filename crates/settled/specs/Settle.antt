@@ -22,7 +22,7 @@ use Rattle.address.specs.declared.Geometry.{Geometry}
 pub use Rattle.address.specs.Address.{slotGeometry, byGeometry}
 use Rattle.push.specs.Push.{geometryOf}
 
--- the EBR at X, without link sectors and last link CHS
+-- rules W34 to W36: the EBR at X, without link sectors and last link CHS
 unfoldable pub atStart : ℕ → LogicalPartition → LogicalPartition
 atStart X l =
     record {
@@ -39,27 +39,27 @@ unfoldable pub firstAt : ℕ → List LogicalPartition → List LogicalPartition
 firstAt X [] = []
 firstAt X (l ∷ ls) = atStart X l ∷ ls
 
--- the refusals of the addresses, one logical partition after the other
+-- rule W7: the refusals of the addresses, one logical partition after the other
 unfoldable pub allGeometry : Geometry → List LogicalPartition → List Check
 allGeometry g [] = []
 allGeometry g (l ∷ ls) = slotGeometry g l ++ allGeometry g ls
 
--- the logical partitions as writing leaves them
+-- rules W34 to W37: the logical partitions as writing leaves them
 unfoldable pub settled : Geometry → ℕ → List LogicalPartition → List LogicalPartition
 settled g X ls = map (byGeometry g) (firstAt X ls)
 
--- link sectors and last link CHS are there
+-- rule W12: link sectors and last link CHS are there
 abbrev pub linkThere : MaybeSectors → MaybeChs → Bool
 linkThere Absent c = false
 linkThere (Present n) NoChs = false
 linkThere (Present n) (SomeChs c) = true
 
--- what follows, if anything does, has its link fields
+-- rule W11: what follows, if anything does, has its link fields
 abbrev pub linked : Option LogicalPartition → Bool
 linked none = true
 linked (some m) = linkThere (m .«ebr_sectors») (m .«ebr_last_chs»)
 
--- flag 4, EBR at or past the end of d sectors 2, the next lacks its link fields 18
+-- rules W9 to W13: flag 4, EBR at or past the end of d sectors 2, the next lacks its link fields 18
 abbrev pub rowChecks : ℕ → LogicalPartition → Bool → List Check
 rowChecks d l follows = (4 ! flagOk (l .partition)) ∷ (2 ! ltb (at l) d) ∷ (18 ! follows) ∷ []
 
@@ -72,7 +72,7 @@ allRows d (l ∷ ls) = rowChecks d l (linked (next ls none)) ++ allRows d ls
 abbrev pub relisted : MBR → List LogicalPartition → MBR
 relisted t ls = withLogicals t (ls ++ drop (t .count) (t .«logical_partitions»)) (t .count)
 
--- all refusals of logical partitions in an extended entry that starts at X: geometry first
+-- rule W8: all refusals of logical partitions in an extended entry that starts at X, geometry first
 unfoldable pub settleChecks : Geometry → ℕ → ℕ → List LogicalPartition → List Check
 settleChecks g X d ls = allGeometry g (firstAt X ls) ++ allRows d (settled g X ls)
 

@@ -1,4 +1,4 @@
-// Sizes, over the free runs of a table.
+// Sizes, over the free runs of a table: rules Q10 to Q17.
 use base::Answer;
 use entry::MBRPartitionEntry;
 use free::FreeAnswer;

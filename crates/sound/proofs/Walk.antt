@@ -1,4 +1,4 @@
--- The rules in the code's order are the rules of document 01. Assumes nothing.
+-- The rules in the code's order are rules S1 to S19. Assumes nothing.
 use mathlib.Core.Path.{_≡_, refl, sym, subst, _∙_}
 use mathlib.Core.Option.{Option, none, some}
 use mathlib.Core.Bool.{Bool, true, false, _&&_}
@@ -259,7 +259,7 @@ module _ (t : Contents) where
     ),
   )
 
-  -- the code's order is as good as document 01's
+  -- the code's order is as good as that of rules S1 to S19
   pub walk-sound : walkb t ≡ soundb t
   walk-sound = bool-ext (walkb t) (soundb t) (λ h. is-sound t .from (walk→sound (is-walk t .to h))) (λ h. is-walk t .from (sound→walk (is-sound t .to h)))
 

@@ -1,4 +1,4 @@
--- Sound tables: document 01's rules one by one in its order, each as a fact and as a test. Assumes nothing.
+-- Sound tables: rules S1 to S19 one by one in their order, each as a fact and as a test. Assumes nothing.
 use Prim.Native.Nat.{ℕ, _+_, _≤_, _<_}
 use mathlib.Core.Path.{_≡_}
 use mathlib.Core.Logic.{_⊎_}
@@ -54,14 +54,14 @@ areaEnd o = endOf (Option·getD o noEntry)
 unfoldable pub end : LogicalPartition → ℕ
 end l = start l + l .partition .sectors
 
--- 1: signature 55 AA
+-- rule S1: signature 55 AA
 abbrev pub Signed : Contents → Type 0
 Signed t = (getD (t .header .«boot_signature») 0 0 ≡ 0x55) × (getD (t .header .«boot_signature») 1 0 ≡ 0xAA)
 
 unfoldable pub signedb : Contents → Bool
 signedb t = standsAt (t .header .«boot_signature») 0 signature
 
--- 2: every flag 00 or 80
+-- rule S2: every flag 00 or 80
 abbrev pub Flagged : MBRPartitionEntry → Type 0
 Flagged e = (e .boot ≡ 0) ⊎ (e .boot ≡ 128)
 
@@ -71,7 +71,7 @@ Flags t = All Flagged (primariesOf t) × All Flagged (parts (t .logicals))
 unfoldable pub flagsb : Contents → Bool
 flagsb t = allb flagOk (primariesOf t) && allb flagOk (parts (t .logicals))
 
--- 3: every CHS within 1,023 cylinders and sector 63
+-- rule S3: every CHS within 1,023 cylinders and sector 63
 abbrev pub Within : CHS → Type 0
 Within c = (c .cylinder ≤ 1023) × (c .sector ≤ 63)
 
@@ -104,7 +104,7 @@ Addresses t = All EntryChs (primariesOf t) × All LogicalChs (t .logicals)
 unfoldable pub addressesb : Contents → Bool
 addressesb t = allb entryChsb (primariesOf t) && allb logicalChsb (t .logicals)
 
--- 4, 5, 6: each used primary starts at 1 or above, has at least 1 sector, ends by D
+-- rules S4 to S6: each used primary starts at 1 or above, has at least 1 sector, ends by D
 abbrev pub Used : MBRPartitionEntry → Type 0
 Used e = used (e .sys) ≡ true
 
@@ -126,7 +126,7 @@ OnDisk t = All (λ e. Used e → endOf e ≤ t .size) (primariesOf t)
 unfoldable pub onDiskb : Contents → Bool
 onDiskb t = allb (λ e. not (used (e .sys)) || leb (endOf e) (t .size)) (primariesOf t)
 
--- 7: overlaps no other
+-- rule S7: overlaps no other
 abbrev pub Apart : MBRPartitionEntry → MBRPartitionEntry → Type 0
 Apart e f = Used e → Used f → (endOf e ≤ f .«starting_lba») ⊎ (endOf f ≤ e .«starting_lba»)
 
@@ -139,7 +139,7 @@ AllApart t = Pairs Apart (primariesOf t)
 unfoldable pub allApartb : Contents → Bool
 allApartb t = pairsb apartb (primariesOf t)
 
--- 8: at most one extended
+-- rule S8: at most one extended
 abbrev pub Extended : MBRPartitionEntry → Type 0
 Extended e = extended (e .sys) ≡ true
 
@@ -155,7 +155,7 @@ OneExtended t = Pairs NotBoth (primariesOf t)
 unfoldable pub oneExtendedb : Contents → Bool
 oneExtendedb t = pairsb notBothb (primariesOf t)
 
--- 9: no logicals without it
+-- rule S9: no logicals without it
 abbrev pub Owned : Option MBRPartitionEntry → List LogicalPartition → Type 0
 Owned none [] = Unit {0}
 Owned none (l ∷ ls) = ⊥
@@ -166,7 +166,7 @@ ownedb none [] = true
 ownedb none (l ∷ ls) = false
 ownedb (some e) ls = true
 
--- 10, 11, 12, 13: each logical is used, not extended, has at least 1 sector, starts after its EBR
+-- rules S10 to S13: each logical is used, not extended, has at least 1 sector, starts after its EBR
 abbrev pub LogicalsUsed : Contents → Type 0
 LogicalsUsed t = All (λ l. Used (l .partition)) (t .logicals)
 
@@ -191,7 +191,7 @@ AfterEbr t = All (λ l. at l < start l) (t .logicals)
 unfoldable pub afterEbrb : Contents → Bool
 afterEbrb t = allb (λ l. ltb (at l) (start l)) (t .logicals)
 
--- 14: ends by the next EBR or the extended end
+-- rule S14: ends by the next EBR or the extended end
 abbrev pub bound : ℕ → Option LogicalPartition → ℕ
 bound hi none = hi
 bound hi (some m) = at m
@@ -205,7 +205,7 @@ Ends t = Row (EndsBy (areaEnd (extendedIn t))) (t .logicals) none
 unfoldable pub endsb : Contents → Bool
 endsb t = rowb (λ l n. leb (end l) (bound (areaEnd (extendedIn t)) n)) (t .logicals) none
 
--- 15: the first EBR is at X
+-- rule S15: the first EBR is at X
 abbrev pub FirstAt : ℕ → List LogicalPartition → Type 0
 FirstAt X [] = Unit {0}
 FirstAt X (l ∷ ls) = at l ≡ X
@@ -214,7 +214,7 @@ unfoldable pub firstAtb : ℕ → List LogicalPartition → Bool
 firstAtb X [] = true
 firstAtb X (l ∷ ls) = eqb (at l) X
 
--- 16: EBRs ascend
+-- rule S16: EBRs ascend
 abbrev pub Ascend : Contents → Type 0
 Ascend t = Row Before (t .logicals) none
 
@@ -225,7 +225,7 @@ beforeb l (some m) = ltb (at l) (at m)
 unfoldable pub ascendb : Contents → Bool
 ascendb t = rowb beforeb (t .logicals) none
 
--- 17, 18, 19: each later link has at least 1 sector, ends by the extended end, covers its partition
+-- rules S17 to S19: each later link has at least 1 sector, ends by the extended end, covers its partition
 abbrev pub OfLink : (ℕ → Type 0) → Type 0 → MaybeSectors → Type 0
 OfLink P other Absent = other
 OfLink P other (Present n) = P n
@@ -302,6 +302,6 @@ soundRules t =
 unfoldable pub soundb : Contents → Bool
 soundb t = checked (soundRules t) (λ k. false) true
 
--- the test on a table handed in: a count over 24 is 6
+-- rule S30: the test on a table handed in, a count over 24 is 6
 unfoldable pub soundSays : MBR → Said Bool
 soundSays t = answer ((6 ! leb (t .count) most) ∷ []) (soundb (contentsOf t))

@@ -16,7 +16,7 @@ pub enum Soundness {
     Refused(u8),
 }
 
-// The test on any table: 6.
+// The test on any table: rules S1 to S30.
 pub fn sound(t: MBR) -> Soundness
     ensures { λ r. ⌜ soundSaid r ≡ answer ((6 ! leb (t .count) most) ∷ []) (soundb (contentsOf t)) ⌝ }
 {

@@ -10,16 +10,16 @@ use Rattle.layover.specs.Layover.{extractBytes, laidOver}
 use Rattle.table.specs.declared.LogicalPartition.{LogicalPartition}
 use Rattle.links.specs.Links.{write}
 
--- the EBRs of logical partitions in an extended entry, in chain order
+-- rules W20, W31: the EBRs of logical partitions in an extended entry, in chain order
 unfoldable pub ebrStores : MBRPartitionEntry → List LogicalPartition → List Store
 ebrStores e [] = []
 ebrStores e (l ∷ ls) = write e l (next ls none) ∷ ebrStores e ls
 
--- records laid over others, one after the other
+-- rule W21: records laid over others, one after the other
 unfoldable pub laidAll : List Store → List Store → List Store
 laidAll [] rs = rs
 laidAll (s ∷ ss) rs = laidAll ss (laidOver s rs)
 
--- the old extract, whose sector size and D hold, with them laid over
+-- rule W18: the old extract, whose sector size and D hold, with them laid over
 unfoldable pub extractOver : List ℕ → List Store → List ℕ
 extractOver x ss = extractBytes (sectorSize x) (diskSectors x) (laidAll ss (records x))

@@ -1,4 +1,4 @@
--- Stores in lent bytes, each its LBA (4 bytes, little-endian) and a record; the wiping store, and the first place. Assumes nothing.
+-- Rules K22 to K25, K27, V11, V12. Stores in lent bytes, each its LBA (4 bytes, little-endian) and a record; the wiping store, and the first place. Assumes nothing.
 use Prim.Native.Nat.{ℕ}
 use mathlib.Core.List.{List, [], _∷_, _++_}
 use Rattle.base.specs.Bytes.{bytesOf, little}
@@ -17,7 +17,7 @@ unfoldable pub storesBytes : List Store → List ℕ
 storesBytes [] = []
 storesBytes (s ∷ ss) = storeBytes s ++ storesBytes ss
 
--- the lent output holds two stores
+-- rule K12: the lent output holds two stores
 abbrev pub roomNeeded : ℕ
 roomNeeded = 1032
 

@@ -119,7 +119,7 @@ fn refuse(t: MBR, k: u8) -> Written
     }
 }
 
-// Writes a table over an extract, through a block that holds it.
+// Writes a table over an extract, through a block that holds it: rules W1 to W42.
 pub fn write_into(t: MBR, x: &[u8], out: &mut [u8]) -> Written
     ensures said { λ r. ⌜ laidSaid (r .answer) ≡ writeSays t (now (x .entry)) (length (now (out .entry))) ⌝ }
     ensures table { λ r. ⌜ r .table ≡ writeTable t (now (x .entry)) (length (now (out .entry))) ⌝ }
@@ -151,7 +151,7 @@ fn header_good(h: MBRHeader, x: &[u8], k: Extract, out: &mut [u8]) -> Laid
     }
 }
 
-// Writes a header alone over an extract: record 0 laid over it.
+// Writes a header alone over an extract, record 0 laid over it: rules W43, W44.
 pub fn write_header(h: MBRHeader, x: &[u8], out: &mut [u8]) -> Laid
     ensures said { λ r. ⌜ laidSaid r ≡ headerSays h (now (x .entry)) (length (now (out .entry))) ⌝ }
     ensures left { λ r. ⌜ now (out .exit) ≡ headerLeaves h (now (x .entry)) (now (out .entry)) ⌝ }

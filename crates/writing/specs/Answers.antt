@@ -15,19 +15,19 @@ use Rattle.table.specs.Table.{extendedIn}
 use Rattle.writing.specs.Write.{headerStore, tableStores, writeChecks, headerOnlyChecks, leftBy, chainGeometry}
 use Rattle.sources.specs.Records.{extractOver}
 
--- the new extract's length, or the first refusal
+-- rule W40: the new extract's length, or the first refusal
 unfoldable pub writeSays : MBR → List ℕ → ℕ → Said ℕ
 writeSays t x room = answer (writeChecks t x room) (length (extractOver x (tableStores t)))
 
--- the table as writing leaves it; as given if refused
+-- rules W38, W41: the table as writing leaves it; as given if refused
 unfoldable pub writeTable : MBR → List ℕ → ℕ → MBR
 writeTable t x room = checked (writeChecks t x room) (λ k. t) (leftBy (extendedIn t) t)
 
--- the new extract at the start of the output, the rest of it as before; all as before if refused
+-- rule W42: the new extract at the start of the output, the rest of it as before; all as before if refused
 unfoldable pub writeLeaves : MBR → List ℕ → List ℕ → List ℕ
 writeLeaves t x out = checked (writeChecks t x (length out)) (λ k. out) (put out 0 (extractOver x (tableStores t)))
 
--- header only
+-- rules W43, W44: header only
 unfoldable pub headerSays : MBRHeader → List ℕ → ℕ → Said ℕ
 headerSays h x room = answer (headerOnlyChecks h x room) (length (extractOver x (headerStore h ∷ [])))
 

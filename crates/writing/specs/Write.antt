@@ -18,11 +18,11 @@ use Rattle.push.specs.Push.{geometryOf}
 use Rattle.settled.specs.Settle.{settled, settleChecks, relisted, geometryChecks}
 unfoldable pub use Rattle.sources.specs.Records.{ebrStores, laidAll, extractOver}
 
--- record 0
+-- rules W19, W44: record 0
 abbrev pub headerStore : MBRHeader → Store
 headerStore h = record { lba = 0; bytes = mbrBytes h }
 
--- without an extended entry none is written
+-- rule W14: without an extended entry none is written
 abbrev pub chainStores : Geometry → Option MBRPartitionEntry → List LogicalPartition → List Store
 chainStores g none ls = []
 chainStores g (some e) ls = ebrStores e (settled g (e .«starting_lba») ls)
@@ -31,16 +31,16 @@ chainStores g (some e) ls = ebrStores e (settled g (e .«starting_lba») ls)
 unfoldable pub tableStores : MBR → List Store
 tableStores t = headerStore (t .header) ∷ chainStores (geometryOf t) (extendedIn t) (logicals t)
 
--- a 65th record 22, lent output too short 19
+-- rules W15 to W17: a 65th record 22, lent output too short 19
 unfoldable pub roomChecks : List ℕ → List Store → ℕ → List Check
 roomChecks x ss room = (22 ! leb (length (laidAll ss (records x))) mostRecords) ∷ (19 ! leb (length (extractOver x ss)) room) ∷ []
 
--- geometry, and per logical 4, 2, 18; nothing without an extended entry
+-- rules W7 to W14: geometry, and per logical 4, 2, 18; nothing without an extended entry
 abbrev pub chainChecks : Geometry → Option MBRPartitionEntry → ℕ → List LogicalPartition → List Check
 chainChecks g none d ls = []
 chainChecks g (some e) d ls = settleChecks g (e .«starting_lba») d ls
 
--- D 0
+-- rule W5: D 0
 abbrev pub diskChecks : List ℕ → List Check
 diskChecks x = (2 ! ltb 0 (diskSectors x)) ∷ []
 
@@ -54,11 +54,11 @@ diskOn t x room = diskChecks x ++ chainOn t x room
 abbrev pub headerOn : MBR → List ℕ → ℕ → List Check
 headerOn t x room = headerChecks (t .header) ++ diskOn t x room
 
--- all refusals in their order: a count over 24, extract, header, D 0, geometry and logicals, room
+-- rules W1 to W17: all refusals in their order, a count over 24, extract, header, D 0, geometry and logicals, room
 unfoldable pub writeChecks : MBR → List ℕ → ℕ → List Check
 writeChecks t x room = (6 ! leb (t .count) most) ∷ (extractChecks x ++ headerOn t x room)
 
--- the table as writing leaves it: without an extended entry as it was
+-- rules W38, W39: the table as writing leaves it, without an extended entry as it was
 abbrev pub leftBy : Option MBRPartitionEntry → MBR → MBR
 leftBy none t = t
 leftBy (some e) t = relisted t (settled (geometryOf t) (e .«starting_lba») (logicals t))
@@ -68,6 +68,6 @@ abbrev pub chainGeometry : Option MBRPartitionEntry → MBR → List Check
 chainGeometry none t = []
 chainGeometry (some e) t = geometryChecks t (e .«starting_lba»)
 
--- header only: extract, header, D 0, room
+-- rule W43: header only, extract, header, D 0, room
 unfoldable pub headerOnlyChecks : MBRHeader → List ℕ → ℕ → List Check
 headerOnlyChecks h x room = extractChecks x ++ (headerChecks h ++ (diskChecks x ++ roomChecks x (headerStore h ∷ []) room))

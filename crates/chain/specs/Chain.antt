@@ -18,7 +18,7 @@ use Rattle.table.specs.declared.MaybeChs.the-variants.{Absent as NoChs, Present
 use Rattle.table.specs.declared.LogicalPartition.{LogicalPartition}
 use Rattle.table.specs.Table.{most}
 
--- the EBR at a sector: past the disk 2, signature 3, flags 4
+-- the EBR at a sector: past the disk 2, signature 3, flags 4 (rules R9 to R11)
 unfoldable pub view : Disk → ℕ → Said EBRHeader
 view d a = answer ((2 ! ltb a (d .size)) ∷ ebrChecks (d .sector a)) (ebrOf (d .sector a))
 
@@ -28,11 +28,11 @@ pub record Link : Type 0 where
   pub first : CHS
   pub last : MaybeChs
 
--- to the first EBR: no sectors, no last CHS, the extended entry's first CHS
+-- to the first EBR: no sectors, no last CHS, the extended entry's first CHS (rules R18 and R19)
 abbrev pub firstLink : MBRPartitionEntry → Link
 firstLink e = record { sectors = Absent; first = e .«first_chs»; last = NoChs }
 
--- to a later EBR: from the link entry
+-- to a later EBR: from the link entry (rule R20)
 abbrev pub linkOf : MBRPartitionEntry → Link
 linkOf e = record { sectors = Present (e .sectors); first = e .«first_chs»; last = SomeChs (e .«last_chs») }
 
@@ -48,7 +48,7 @@ startingAt s e =
       sectors = e .sectors;
     }
 
--- the logical partition of the EBR h at sector a, to which k leads
+-- the logical partition of the EBR h at sector a, to which k leads (rules R21 and R22)
 unfoldable pub placed : ℕ → Link → EBRHeader → LogicalPartition
 placed a k h =
     record {
@@ -74,7 +74,7 @@ byLink end on none = end
 byLink end on (some r) = on r
 
 -- The decision what follows an EBR at sector a, whose place counted from the extended partition's start is rel, whose partition starts at p and whose link at t;
--- m is the number of EBRs still allowed. The 25th EBR 6; partition start + sector beyond 32 bits 7; an end; a link not above the current place 5; else the link's place
+-- m is the number of EBRs still allowed. The 25th EBR 6; partition start + sector beyond 32 bits 7; an end; a link not above the current place 5; else the link's place (rules R12 to R15)
 unfoldable pub follows : ℕ → ℕ → ℕ → ℕ → ℕ → Said (Option ℕ)
 follows m a rel p t =
     checked ((6 ! ltb 0 m) ∷ (7 ! ltb (p + a) (2 ^ 32)) ∷ []) refuses
@@ -84,19 +84,19 @@ follows m a rel p t =
 abbrev pub followsIn : ℕ → ℕ → ℕ → EBRHeader → Said (Option ℕ)
 followsIn m X rel h = follows m (X + rel) rel (h .«partition_1» .«starting_lba») (h .«partition_2» .«starting_lba»)
 
--- the EBR h at X + rel, to which k leads, and what follows it; m is the number of EBRs still allowed
+-- the EBR h at X + rel, to which k leads, and what follows it; m is the number of EBRs still allowed (rules R8, R17 and R23)
 unfoldable pub chain : (ℕ → Said EBRHeader) → ℕ → ℕ → ℕ → Link → EBRHeader → Said (List LogicalPartition)
 chain v X zero rel k h = andThen (followsIn zero X rel h) (λ o. gives [])
 chain v X (suc m) rel k h =
     andThen (followsIn (suc m) X rel h)
     (λ o. join (placed (X + rel) k h) (byLink (gives []) (λ r. andThen (v (X + r)) (chain v X m r (linkOf (h .«partition_2»)))) o))
 
--- if the first EBR fails there are no logical partitions and no refusal
+-- if the first EBR fails there are no logical partitions and no refusal (rule R16)
 abbrev pub forgiven : Said EBRHeader → (EBRHeader → Said (List LogicalPartition)) → Said (List LogicalPartition)
 forgiven (gives h) f = f h
 forgiven (refuses k) f = gives []
 
--- the logical partitions of an extended entry, from its start X on
+-- the logical partitions of an extended entry, from its start X on (rules R6, R7, R25 and R28)
 unfoldable pub logicalsOf : (ℕ → Said EBRHeader) → Option MBRPartitionEntry → Said (List LogicalPartition)
 logicalsOf v none = gives []
 logicalsOf v (some e) = forgiven (v (e .«starting_lba»)) (chain v (e .«starting_lba») most 0 (firstLink e))

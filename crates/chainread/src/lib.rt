@@ -31,8 +31,9 @@ fn refuse(k: u8) -> Counted
 fn nothing() -> Counted
     ensures { λ r. ⌜ r ≡ counted 0 (gives []) ⌝ }
 {
+    let forgiven = Outcome::Done;
     Counted {
-        answer: Outcome::Done,
+        answer: forgiven,
         count: 0,
     }
 }

@@ -18,15 +18,15 @@ use Rattle.lookup.specs.declared.Got.the-variants.{Nothing, Entry, Refus
 use Rattle.lookup.specs.declared.Count.{Count}
 use Rattle.lookup.specs.declared.Count.the-variants.{Is, Refused as CountRefused}
 
--- a table handed in with a count over 24 is refused first
+-- a table handed in with a count over 24 is refused first (rule G5)
 abbrev pub countCheck : MBR → Check
 countCheck t = 6 ! leb (t .count) most
 
--- the decision over the numbers
+-- the decision over the numbers (rules L1 to L3)
 abbrev pub kindOf : ℕ → Kind
 kindOf i = pick (eqb i 0) NoKind (pick (ltb i 5) (Primary i) (Logical (i - 5)))
 
--- the entry of logical partition number k, counted from 0
+-- the entry of logical partition number k, counted from 0 (rule L4)
 abbrev pub logicalOf : MBR → ℕ → Option MBRPartitionEntry
 logicalOf t k = pick (ltb k (t .count)) (some (getD (t .«logical_partitions») k noLogical .partition)) none
 
@@ -39,10 +39,11 @@ ofKind t (Logical k) = logicalOf t k
 abbrev pub entryOf : MBR → ℕ → Option MBRPartitionEntry
 entryOf t i = ofKind t (kindOf i)
 
+-- the entry of a number, or 6 (rule L6)
 abbrev pub getSays : MBR → ℕ → Said (Option MBRPartitionEntry)
 getSays t i = answer (countCheck t ∷ []) (entryOf t i)
 
--- primaries and logical partitions together
+-- primaries and logical partitions together (rule L5)
 abbrev pub lenSays : MBR → Said ℕ
 lenSays t = answer (countCheck t ∷ []) (4 + t .count)
 

@@ -44,7 +44,7 @@ unfoldable pub chainLooks : Disk → Option MBRPartitionEntry → List ℕ
 chainLooks d none = []
 chainLooks d (some e) = looking d (e .«starting_lba») (view d (e .«starting_lba»)) (behind d (e .«starting_lba») most 0)
 
--- the sectors that reading looks at, in its order
+-- the sectors that reading looks at, in its order (rule R30)
 unfoldable pub looked : Disk → List ℕ
 looked d = looking d 0 (headerOn d) (λ h. chainLooks d (extendedOf (primaries h)))
 

@@ -24,7 +24,7 @@ pub record Table : Type 0 where
   pub logicals : List LogicalPartition
   pub align : ℕ
 
--- the header with its chain
+-- the header with its chain (rule R26)
 unfoldable pub withChain : Disk → MBRHeader → Said Table
 withChain d h =
     andThen (logicalsOf (view d) (extendedOf (primaries h)))
@@ -35,11 +35,11 @@ withChain d h =
 unfoldable pub read : Disk → Said Table
 read d = andThen (headerOn d) (withChain d)
 
--- what an extract reads as
+-- what an extract reads as (rule R1)
 unfoldable pub readSays : List ℕ → Said Table
 readSays x = andThen (checkSays x) (λ e. read (diskOf x))
 
--- the table by value: no geometry
+-- the table by value: no geometry (rules R24 and R27)
 unfoldable pub tableOf : Table → MBR
 tableOf t =
     record {

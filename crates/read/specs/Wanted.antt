@@ -15,11 +15,12 @@ use Rattle.read.specs.declared.Want.{Want}
 use Rattle.read.specs.declared.Want.the-variants as want
 use Rattle.read.specs.Facts.{looking, behind, looked}
 
+-- the first of these sectors without a record (rule R29)
 unfoldable pub firstAbsent : List ℕ → List ℕ → Option ℕ
 firstAbsent x [] = none
 firstAbsent x (a ∷ ls) = pick (absent x a) (some a) (firstAbsent x ls)
 
--- what an extract wants: a sector, nothing, or 1
+-- what an extract wants: a sector, nothing, or 1 (rules R31 and R32)
 unfoldable pub wantedSays : List ℕ → Said (Option ℕ)
 wantedSays x = andThen (checkSays x) (λ e. gives (firstAbsent x (looked (diskOf x))))
 

@@ -10,13 +10,14 @@ use Rattle.table.specs.Table.{noLogical, emptySlot}
 use Rattle.lookup.specs.Numbers.{countCheck}
 pub use Rattle.less.specs.Less.{without}
 
--- 6; a number below 5 or absent 17
+-- 6; a number below 5 or absent 17 (rules D1 to D3)
 abbrev pub removeChecks : MBR → ℕ → List Check
 removeChecks t n = countCheck t ∷ (17 ! leb 5 n) ∷ (17 ! ltb (n - 5) (t .count)) ∷ []
 
--- the table after, and the partition that was removed; if refused the given table, and an empty partition
+-- the table after; if refused the given table (rule D7)
 abbrev pub removedTable : MBR → ℕ → MBR
 removedTable t n = checked (removeChecks t n) (λ _. t) (without t (n - 5))
 
+-- the partition that was removed; if refused an empty one (rule D6)
 abbrev pub removedPartition : MBR → ℕ → LogicalPartition
 removedPartition t n = checked (removeChecks t n) (λ _. emptySlot) (getD (t .«logical_partitions») (n - 5) noLogical)

@@ -15,11 +15,11 @@ withoutKind t Nothing = t
 withoutKind t (Primary i) = withoutPrimary t i
 withoutKind t (Logical k) = without t k
 
--- the table without the partition that was found; none found 15
+-- the table without the partition that was found; none found 15 (rules D8 and D12)
 abbrev pub removeFound : MBR → Option ℕ → Said MBR
 removeFound t none = refuses 15
 removeFound t (some n) = gives (withoutKind t (kindOf n))
 
--- 6, the search's 7, 15
+-- 6, the search's 7, 15 (rule D9)
 unfoldable pub removeAtSays : MBR → ℕ → Said MBR
 removeAtSays t s = andThen (findSays t s) (removeFound t)

@@ -158,7 +158,7 @@ pub fn write_header(h: MBRHeader, x: &[u8], out: &mut [u8]) -> Laid
 {
     let c = extract::check(x);
     match c {
-        Header::Refused(r) => Laid::Refused(r),
+        Header::Refused(q) => Laid::Refused(q),
         Header::Good(k) => header_good(h, x, k, out),
     }
 }

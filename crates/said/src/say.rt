@@ -32,7 +32,7 @@ fn rule(n: u8) {
         20 => text(b"the table is not sound"),
         21 => text(b"the start is before the last partition's end"),
         23 => text(b"the type is 0 or extended, or the geometry has more than 63 sectors"),
-        _ => text(b"see document 01"),
+        _ => text(b"no refusal of this program"),
     }
 }
 

@@ -1,4 +1,4 @@
--- The two disks of document 01's numbers, and what is asked of them. Assumes nothing.
+-- The two disks of the scope document's numbers, and what is asked of them. Assumes nothing.
 use Prim.Native.Nat.{ℕ}
 use mathlib.Core.List.{List, [], _∷_, _++_, map}
 use mathlib.Core.Option.{Option}

@@ -129,10 +129,10 @@ pub fn kind(i: usize) -> u16 {
 }
 
 pub fn is_sector_size(n: u64) -> bool {
-    match n {
-        512 | 1024 | 2048 | 4096 => true,
-        _ => false,
+    if 4096 < n {
+        return false;
     }
+    extractrules::size_ok(n as u32)
 }
 
 // The command that the first argument names: 1 list, 2 extract, 3 push, 4 remove, 5 --help; 0 if it names none.

@@ -3,6 +3,7 @@ use alter::Wish;
 use push::Geometry;
 use push::Request;
 use said::say;
+use table::MBR;
 use words::args;
 use words::geometry;
 
@@ -69,7 +70,7 @@ pub fn add() {
     let sys = args::kind(3);
     let start = args::number(4);
     let sectors = args::number(5);
-    let align = args::option(6, b"--align", 2048);
+    let align = args::option(6, b"--align", MBR::DEFAULT_ALIGN as u64);
     let shape = geometry::option(6, b"--geometry");
     if 255 < sys {
         return not_understood();

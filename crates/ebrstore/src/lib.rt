@@ -1,6 +1,5 @@
 // One EBR, or zeros in its place, as a store in lent bytes; a logical partition in the first place. Internal.
 use entry::MBRPartitionEntry;
-use table::DiskLba;
 use table::LogicalPartition;
 use table::MaybeChs;
 use table::MaybeSectors;
@@ -39,9 +38,10 @@ pub fn move_first(e: MBRPartitionEntry, l: LogicalPartition) -> LogicalPartition
     let partition = l.partition;
     let first = e.first_chs;
     let kept = l.kept;
+    let base = chain::area_of(e);
     LogicalPartition {
         partition: partition,
-        absolute_ebr_lba: DiskLba(e.starting_lba),
+        absolute_ebr_lba: base,
         ebr_sectors: MaybeSectors::Absent,
         ebr_first_chs: first,
         ebr_last_chs: MaybeChs::Absent,

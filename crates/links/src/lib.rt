@@ -47,7 +47,8 @@ pub fn link_to(e: MBRPartitionEntry, l: LogicalPartition) -> MBRPartitionEntry
     ensures { λ r. ⌜ r ≡ linkEntry (e .sys) (leads (e .«starting_lba») (some l)) ⌝ }
 {
     let place = l.absolute_ebr_lba;
-    let link = chain::link_of(DiskLba(e.starting_lba), place);
+    let base = chain::area_of(e);
+    let link = chain::link_of(base, place);
     let first = l.ebr_first_chs;
     let end = l.ebr_last_chs;
     let last = chs_or_none(end);

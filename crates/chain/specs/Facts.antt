@@ -29,6 +29,7 @@ pub data View : Type 0 where
   bad : ℕ → View
   ebr : Body → Next → View
 
+-- where a link entry leads
 unfoldable pub nextOf : MBRPartitionEntry → Next
 nextOf e = byLink stop (λ r. to r (linkOf e)) (leadsTo (e .«starting_lba»))
 

@@ -34,7 +34,7 @@ ifGiven (refuses k) f = []
 abbrev pub looking : {A : Type 0} → Disk → ℕ → Said A → (A → List ℕ) → List ℕ
 looking d a s f = pick (ltb a (d .size)) (a ∷ ifGiven s f) []
 
--- the sectors that reading looks at behind the EBR h at X + rel, in its order; m is the number of EBRs still allowed
+-- the sectors that reading looks at behind the EBR h at X + rel, in its order; m is the number of EBRs still allowed, and with none allowed the decision refuses
 unfoldable pub behind : Disk → ℕ → ℕ → ℕ → EBRHeader → List ℕ
 behind d X zero rel h = []
 behind d X (suc m) rel h = ifGiven (followsIn (suc m) X rel h) (byLink [] (λ r. looking d (X + r) (view d (X + r)) (behind d X m r)))

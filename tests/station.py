@@ -1,4 +1,6 @@
-"""Tests the station's program on images: python3 tests/station.py PROGRAM PRELOAD [SFDISK [STRACE]]
+"""Tests the station's program on images: python3 tests/station.py PROGRAM PRELOAD SFDISK STRACE [quick]
+
+SFDISK and STRACE may be empty. With quick there are fewer images, which takes some seconds.
 
 Images with 1 to 24 logical partitions are made by sfdisk, images of every sector size by the second program. Each change is
 carried out whole, and then again and again with the program stopped before and after each call that writes, and with calls
@@ -7,6 +9,7 @@ read as the table before or the table after: by the program's own list, by the s
 by sfdisk. One kind of stop is only counted: the sector that makes the change, cut within its record, and the program stopped
 before it puts the sector back. A store is one sector and the medium writes it whole or not at all; nothing can mend half of one.
 """
+import fcntl
 import os
 import random
 import re
@@ -25,12 +28,35 @@ import x86  # noqa: E402
 PROGRAM, PRELOAD = sys.argv[1], sys.argv[2]
 SFDISK = sys.argv[3] if len(sys.argv) > 3 and sys.argv[3] else None
 STRACE = sys.argv[4] if len(sys.argv) > 4 and sys.argv[4] else None
+QUICK = sys.argv[5:] == ["quick"]
 WRITERS = "write,writev,pwrite64,pwritev,pwritev2,fsync,fdatasync,ftruncate,fallocate,copy_file_range,sendfile,mmap"
-counts = {"changes": 0, "stops": 0, "refused": 0, "half": 0, "other": 0, "traced": 0}
+counts = {"changes": 0, "stops": 0, "refused": 0, "half": 0, "other": 0, "traced": 0, "damaged": 0}
 
 
 def fail(what, *more):
     sys.exit(" ".join(["station: not so:", what, *map(str, more)]))
+
+
+def progress(what):
+    """One line that changes, on a terminal; else a line for each."""
+    sys.stderr.write(f"\r\033[K{what}" if sys.stderr.isatty() else what + "\n")
+    sys.stderr.flush()
+
+
+def locked(path, words, **more):
+    """Runs a program that finds the lock of a disk held by descriptor 9, as ./station has it."""
+    nothing = os.open("/dev/null", os.O_RDONLY)
+    os.dup2(nothing, 9)
+    os.close(nothing)
+    if os.path.exists(path):
+        disk = os.open(path, os.O_RDONLY)
+        fcntl.flock(disk, fcntl.LOCK_EX)
+        os.dup2(disk, 9)
+        os.close(disk)
+    try:
+        return subprocess.run(words, pass_fds=(9,), stdout=subprocess.PIPE, stderr=subprocess.PIPE, **more)
+    finally:
+        os.close(9)
 
 
 def run(*args, how=None, at=0, cut=0, log=None):
@@ -41,6 +67,8 @@ def run(*args, how=None, at=0, cut=0, log=None):
         env.update(more, STATION_HOW=how or "", STATION_AT=str(at), STATION_CUT=str(cut))
     if log:
         env["STATION_LOG"] = log
+    if args[0] in ("push", "remove") and len(args) > 1 and "--dry-run" not in args:
+        return locked(str(args[1]), words, env=env)
     return subprocess.run(words, env=env, stdout=subprocess.PIPE, stderr=subprocess.PIPE)
 
 
@@ -84,9 +112,9 @@ class Image:
 
     def listed(self):
         done = run("list", self.path, "--sector", self.size)
-        if done.stderr:
-            return done.stderr.decode().split(":")[0] + "\n"
-        return done.stdout.decode()
+        if done.stdout:
+            return done.stdout.decode()
+        return done.stderr.decode().split(":")[0] + "\n"
 
 
 def by_sfdisk(image):
@@ -128,8 +156,8 @@ def attempts(calls, size):
 def traced(args, image, stores):
     """The calls that could write to the disk, by the system's own trace: each store, then a flush that answers 0."""
     with tempfile.TemporaryDirectory() as folder:
-        done = subprocess.run([STRACE, "-f", "-o", folder + "/trace", "-e", "trace=" + WRITERS, PROGRAM, *map(str, args),
-                               "--sector", str(image.size)], stdout=subprocess.PIPE, stderr=subprocess.PIPE)
+        done = locked(image.path, [STRACE, "-f", "-o", folder + "/trace", "-e", "trace=" + WRITERS, PROGRAM, *map(str, args),
+                                   "--sector", str(image.size)])
         lines = Path(folder + "/trace").read_text().splitlines()
     if done.stdout != b"done\n":
         fail("done under strace", args, done)
@@ -155,10 +183,14 @@ def put_back(image, kept):
 
 def dry(image, args, made, before, sfdisk):
     done = run(*args, "--dry-run", "--sector", image.size)
-    want = "".join(f"store {lba}\n" + "".join(record[at:at + 16].hex(" ") + "\n" for at in range(0, 512, 16))
-                   for lba, record in made.stores) + "done\n"
-    if done.stdout.decode() != want or done.stderr or views(image, sfdisk) != before:
-        fail("a dry run prints the stores and changes nothing", args)
+    stores = "".join(f"store {lba}\n" + "".join(f"{at:03x} " + record[at:at + 16].hex(" ") + "\n"
+                                                 for at in range(0, 512, 16) if any(record[at:at + 16]))
+                     for lba, record in made.stores)
+    want = "before\n" + before[1] + stores + "after\n"
+    text = done.stdout.decode()
+    if not text.startswith(want) or not text.endswith("\ndone\n") or views(image, sfdisk) != before:
+        fail("a dry run prints the table before, the stores and the table after, and changes nothing", args, done)
+    return text[len(want):-len("done\n")]
 
 
 def whole(image, args, made, kept):
@@ -167,7 +199,7 @@ def whole(image, args, made, kept):
         log = folder + "/log"
         done = run(*args, "--sector", image.size, log=log)
         trace = [line.split() for line in Path(log).read_text().splitlines()]
-    if done.stdout != b"done\n" or done.stderr:
+    if done.stdout != b"done\n" or done.stderr and "--overwrite-first" not in args:
         fail("done", args, done)
     want = [w for lba, _ in made.stores for w in (["pwrite", str(lba * image.size), str(image.size)], ["fsync", "0", "0"])]
     if trace != want:
@@ -208,9 +240,11 @@ def try_change(image, args, made, sfdisk=False):
     counts["changes"] += 1
     before = views(image, sfdisk)
     kept = {lba: image.sector(lba) for lba, _ in made.stores}
-    dry(image, args, made, before, sfdisk)
+    shown = dry(image, args, made, before, sfdisk)
     calls = whole(image, args, made, kept)
     after = views(image, sfdisk)
+    if shown != after[1]:
+        fail("a dry run shows the listing after", args, shown, after[1])
     if after[0] != replay.contents_of(made.table):
         fail("the table after", args)
     if STRACE:
@@ -237,7 +271,22 @@ def push(image, request, sfdisk=False):
     align, geometry, sys_, start, sectors = request
     made = answered(m.careful_push, image.extract(), *request, bytearray(1032))
     args = ["push", image.path, f"{sys_:02X}", start, sectors, "--align", align, "--geometry", "/".join(map(str, geometry))]
+    if is_damaged(image):
+        kept = image.table()
+        said = run(*args, "--sector", image.size)
+        if said.stdout != b"failed\n" or b"is no boot record and not empty" not in said.stderr or image.table() != kept:
+            fail("a push stops before it overwrites what is no boot record", args, said)
+        counts["damaged"] += 1
+        args.append("--overwrite-first")
     judged(image, args, made, sfdisk)
+
+
+def is_damaged(image):
+    """Is the extended partition's first sector no EBR, and not empty?"""
+    table = m.read_table(image.extract())
+    extended = table.header.extended()
+    return bool(extended and not table.logicals and extended.starting_lba < image.disk_size
+                and any(image.sector(extended.starting_lba)[:512]))
 
 
 def remove(image, number, sfdisk=False):
@@ -250,7 +299,7 @@ def judged(image, args, made, sfdisk):
         return try_change(image, args, made, sfdisk)
     counts["refused"] += 1
     said = run(*args, "--sector", image.size)
-    if said.stdout.decode() != f"refused {made}\n" or not said.stderr.decode().startswith(f"refused {made}:"):
+    if said.stdout.decode() != f"refused {made}\n" or f"refused {made}:" not in said.stderr.decode():
         fail("refused", made, args, said)
 
 
@@ -271,7 +320,8 @@ def from_sfdisk(folder, n):
 
 
 def with_sfdisk(folder):
-    for n in range(1, 25):
+    for n in (1, 2, 24) if QUICK else range(1, 25):
+        progress(f"station: image {n} of 24 made by sfdisk, {counts['stops']} stops")
         image = from_sfdisk(folder, n)
         if f"logical {n}\n" not in image.listed():
             fail("all logical partitions of sfdisk's image are listed", n, image.listed())
@@ -300,7 +350,9 @@ def from_second(folder, rng):
 
 def with_second(folder, images):
     rng = random.Random(40)
-    for _ in range(images):
+    for n in range(1, images + 1):
+        if n % 5 == 1 or sys.stderr.isatty():
+            progress(f"station: image {n} of {images} made by the second program, {counts['stops']} stops")
         image = from_second(folder, rng)
         t = m.read_table(image.extract())
         for _ in range(3):
@@ -332,7 +384,7 @@ def sizes(folder):
 
 
 def arguments(folder):
-    """--help of each command; arguments that are not understood; a disk that is not there."""
+    """--help of each command; a disk that is not there."""
     every = run("--help").stdout
     for command in ("list", "extract", "push", "remove"):
         told = run(command, "--help")
@@ -352,10 +404,14 @@ if __name__ == "__main__":
         sizes(folder)
         if SFDISK:
             with_sfdisk(folder)
-        with_second(folder, 60)
-    print("station: {changes} changes, whole and then stopped {stops} times, and {refused} refusals hold".format(**counts)
-          + ("" if SFDISK else "; there was no sfdisk"))
+        with_second(folder, 4 if QUICK else 60)
+    progress("")
+    print("station: {changes} changes, whole and then stopped {stops} times, and {refused} refusals hold; {damaged} pushes stopped "
+          "before a damaged first sector".format(**counts))
     print("station: {half} of the stops left half a record in the sector that makes the change; {other} of them read as a third "
           "table".format(**counts))
     print("station: {traced} changes traced by strace: each store, then a flush answered 0, then the next".format(**counts)
-          if STRACE else "station: there was no strace; the order of stores and flushes is by the preload's log")
+          if STRACE else "station: the order of stores and flushes is by the preload's log")
+    missing = [tool for tool, there in (("sfdisk", SFDISK), ("strace", STRACE)) if not there]
+    if missing:
+        print("station: skipped, there was no " + " and no ".join(missing))

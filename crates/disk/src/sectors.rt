@@ -2,10 +2,15 @@
 use extract::Place;
 use libc::SEEK_END;
 
-// The number of sectors, or why there is none.
+// The number of sectors, or why there is none: the size is no whole number of sectors, or of too many, or cannot be told;
+// a device without an end; a directory; a pipe or a terminal.
 pub enum Sectors {
     Are(u32),
     Odd,
+    Many,
+    Endless,
+    Directory,
+    Pipe,
     Failed,
 }
 
@@ -17,25 +22,55 @@ fn whole(end: i64) -> u64 {
     end as u64
 }
 
-// The size of the disk in sectors.
-pub fn size_of(fd: i32, sector: u32) -> Sectors {
-    let end = libc::lseek(fd, 0, SEEK_END);
-    if end < 0 {
-        return Sectors::Failed;
-    }
+// The number of sectors of a size in bytes.
+fn counted(n: u64, sector: u32) -> Sectors {
     if sector == 0 {
         return Sectors::Odd;
     }
-    let n = whole(end);
     let size = sector as u64;
     if n % size != 0 {
         return Sectors::Odd;
     }
     let d = n / size;
     if 4294967295 < d {
-        return Sectors::Odd;
+        return Sectors::Many;
     }
     Sectors::Are(d as u32)
+}
+
+// How many bytes the start of a disk gives; below 0 if it gives none, and errno says why.
+fn first_byte(fd: i32) -> isize {
+    let mut one = [0u8; 1];
+    libc::pread(fd, &mut one, 0)
+}
+
+// The size of what can be read from its start on, or cannot.
+fn measured(fd: i32, sector: u32, got: isize) -> Sectors {
+    let end = libc::lseek(fd, 0, SEEK_END);
+    if end < 0 {
+        return Sectors::Failed;
+    }
+    if end == 0 {
+        if 0 < got {
+            return Sectors::Endless;
+        }
+    }
+    counted(whole(end), sector)
+}
+
+// The size of the disk in sectors.
+pub fn size_of(fd: i32, sector: u32) -> Sectors {
+    let got = first_byte(fd);
+    if got < 0 {
+        let why = os::errno();
+        if why == libc::EISDIR {
+            return Sectors::Directory;
+        }
+        if why == libc::ESPIPE {
+            return Sectors::Pipe;
+        }
+    }
+    measured(fd, sector, got)
 }
 
 // Where a sector starts, in bytes; -1 if it has no place.

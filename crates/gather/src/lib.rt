@@ -1,4 +1,7 @@
-// The extract of a disk, collected by what reading wants.
+// The extract of a disk, collected by what reading wants, and what can be told of the disk from it.
+pub mod first;
+pub mod sizes;
+
 use disk::sectors;
 use disk::sectors::Sectors;
 use layover::Laid;
@@ -6,7 +9,24 @@ use read::Want;
 use said::say;
 use words::slices;
 
-// The extract's length so far, and whether there is more to collect. 0: it failed.
+// What stands for the length of an extract that could not be collected, and why. An extract is longer than each of them.
+pub const ODD: usize = 1;
+
+pub const MANY: usize = 2;
+
+pub const NO_SIZE: usize = 3;
+
+pub const DIRECTORY: usize = 4;
+
+pub const PIPE: usize = 5;
+
+pub const ENDLESS: usize = 6;
+
+pub const UNREAD: usize = 7;
+
+pub const NO_END: usize = 8;
+
+// The extract's length so far, or why there is none, and whether there is more to collect.
 struct Step {
     length: usize,
     more: bool,
@@ -59,8 +79,7 @@ fn start(sector: u32, d: u32, x: &mut [u8]) -> usize {
 fn add(fd: i32, sector: u32, lba: u32, x: &mut [u8], n: usize) -> Step {
     let mut record = [0u8; 512];
     if !sectors::read_at(fd, sector, lba, &mut record) {
-        say::failed(b"a sector of the disk cannot be read");
-        return ended(0);
+        return ended(UNREAD);
     }
     let mut y = [0u8; 33048];
     match lay::lay_over(slices::part(x, n), lba, &record, &mut y) {
@@ -71,10 +90,7 @@ fn add(fd: i32, sector: u32, lba: u32, x: &mut [u8], n: usize) -> Step {
                 more: true,
             }
         }
-        Laid::Refused(r) => {
-            say::refused(r.number);
-            ended(0)
-        }
+        Laid::Refused(_) => ended(NO_END),
     }
 }
 
@@ -82,10 +98,7 @@ fn advance(fd: i32, sector: u32, x: &mut [u8], n: usize) -> Step {
     match read::wanted(slices::part(x, n)) {
         Want::Nothing => ended(n),
         Want::Sector(lba) => add(fd, sector, lba, x, n),
-        Want::Refused(r) => {
-            say::refused(r.number);
-            ended(0)
-        }
+        Want::Refused(_) => ended(NO_END),
     }
 }
 
@@ -100,27 +113,51 @@ fn collect(fd: i32, sector: u32, x: &mut [u8], first: usize) -> usize {
             return n;
         }
     }
-    say::failed(b"the extract does not end");
-    0
+    NO_END
 }
 
-// What stands for the length of an extract that is refused: of a size in no whole number of sectors, or in too many.
-pub const REFUSED: usize = 1;
-
-// The extract of the disk at the start of x, and its length; 0 if it failed, and it was said why.
+// The extract of the disk at the start of x, and its length; or why there is none.
 pub fn gather(fd: i32, sector: u32, x: &mut [u8]) -> usize {
     match sectors::size_of(fd, sector) {
         Sectors::Are(d) => {
             let n = start(sector, d, x);
             collect(fd, sector, x, n)
         }
-        Sectors::Odd => {
-            say::refused(1);
-            REFUSED
-        }
-        Sectors::Failed => {
-            say::failed(b"the disk's size cannot be told");
-            0
-        }
+        Sectors::Odd => ODD,
+        Sectors::Many => MANY,
+        Sectors::Endless => ENDLESS,
+        Sectors::Directory => DIRECTORY,
+        Sectors::Pipe => PIPE,
+        Sectors::Failed => NO_SIZE,
+    }
+}
+
+// Is this the length of an extract?
+pub fn is_whole(n: usize) -> bool {
+    NO_END < n
+}
+
+// Is it refused, by 1, and not failed?
+pub fn is_refused(n: usize) -> bool {
+    n <= MANY
+}
+
+// Says why there is no extract.
+pub fn tell(n: usize) {
+    match n {
+        1 => say::refused_for(
+            1,
+            b"the size is no whole number of sectors of this sector size",
+        ),
+        2 => say::refused_for(
+            1,
+            b"more than 4294967295 sectors, and the table has no room for that",
+        ),
+        3 => say::failed(b"the disk's size cannot be told"),
+        4 => say::failed(b"this is a directory, no disk and no image"),
+        5 => say::failed(b"this is a pipe or a terminal, no disk and no image"),
+        6 => say::failed(b"this is a device without an end, no disk"),
+        7 => say::failed(b"a sector of the disk cannot be read"),
+        _ => say::failed(b"the records of the disk cannot be collected"),
     }
 }

@@ -6,29 +6,61 @@ use said::say;
 use table::MBR;
 use words::args;
 use words::geometry;
+use words::options;
+use words::size;
+use words::slices;
+use words::wrong;
 
 fn not_understood() {
-    say::usage();
     alter::end(false);
 }
 
-// The change, if sector size and the number of arguments are good.
-fn begin(from: usize, words: u8, w: Wish) {
-    let sector = args::option(from, b"--sector", 512);
+// Has --save, if it is there, the name of a file behind it, and no --dry-run beside it?
+fn save_fits(from: usize, dry: bool) -> bool {
+    let i = args::find(from, b"--save");
+    if i == 0 {
+        return true;
+    }
+    if dry {
+        say::failed(b"--save and --dry-run do not go together: a dry run changes nothing");
+        return false;
+    }
+    let at = args::behind(i);
+    let mut path = io::buffer();
+    let n = os::arg(at, &mut path);
+    if n == 0 {
+        wrong::argument(at, b"--save", b"the name of a new file");
+        return false;
+    }
+    if slices::begins(&path[..n], b"--") {
+        wrong::argument(at, b"--save", b"the name of a new file");
+        return false;
+    }
+    true
+}
+
+// Are the options from a place on the command's own, and understood?
+fn options_fit(command: u8, from: usize, dry: bool) -> bool {
+    if !options::are_known(command, from) {
+        return false;
+    }
+    if !options::are_single(from) {
+        return false;
+    }
+    save_fits(from, dry)
+}
+
+// The change, if its options are good.
+fn begin(command: u8, from: usize, w: Wish) {
     let dry = args::flag(from, b"--dry-run");
-    let size = sector.value;
-    if !args::is_sector_size(size) {
+    if !options_fit(command, from, dry) {
         return not_understood();
     }
-    if from > 16 {
+    let s = size::wanted(from);
+    if s.bytes == 0 {
         return not_understood();
     }
-    if os::arg_count() != from + words as usize + sector.words as usize + dry as usize {
-        return not_understood();
-    }
-    if size <= 4096 {
-        alter::on_disk(size as u32, dry == 1, w);
-    }
+    alter::on_disk(s, dry, w);
 }
 
 fn request(sys: u16, start: u64, sectors: u64, align: u64, g: Geometry) -> Wish {
@@ -41,20 +73,10 @@ fn request(sys: u16, start: u64, sectors: u64, align: u64, g: Geometry) -> Wish 
     };
     Wish {
         request: q,
+        overwrite: args::flag(4, b"--overwrite-first"),
         removes: false,
         number: 0,
     }
-}
-
-// Is each of these a number of 32 bits?
-fn are_numbers(a: u64, b: u64, c: u64) -> bool {
-    if 4294967295 < a {
-        return false;
-    }
-    if 4294967295 < b {
-        return false;
-    }
-    c <= 4294967295
 }
 
 fn shape_of(cylinders: u16, heads: u8, sectors: u8) -> Geometry {
@@ -65,35 +87,46 @@ fn shape_of(cylinders: u16, heads: u8, sectors: u8) -> Geometry {
     }
 }
 
-// push DISK TYPE START SECTORS
-pub fn add() {
-    let sys = args::kind(3);
-    let start = args::number(4);
-    let sectors = args::number(5);
-    let align = args::option(6, b"--align", MBR::DEFAULT_ALIGN as u64);
+// The push of a partition, if the options that say more of it are good.
+fn add_to(sys: u16, start: u64, sectors: u64) {
+    let align = args::option_for(6, b"--align", MBR::DEFAULT_ALIGN as u64);
+    if 4294967295 < align {
+        return not_understood();
+    }
     let shape = geometry::option(6, b"--geometry");
-    if 255 < sys {
-        return not_understood();
-    }
-    if !are_numbers(start, sectors, align.value) {
-        return not_understood();
-    }
     if !shape.good {
         return not_understood();
     }
     let g = shape_of(shape.cylinders, shape.heads, shape.sectors);
-    let w = request(sys, start, sectors, align.value, g);
-    begin(6, align.words % 4 + shape.words % 4, w);
+    let w = request(sys, start, sectors, align, g);
+    begin(3, 6, w);
+}
+
+// push DISK TYPE START SECTORS
+pub fn add() {
+    let sys = args::kind_for(3);
+    if 255 < sys {
+        return not_understood();
+    }
+    let start = args::number_for(4, b"START");
+    if 4294967295 < start {
+        return not_understood();
+    }
+    let sectors = args::number_for(5, b"SECTORS");
+    if 4294967295 < sectors {
+        return not_understood();
+    }
+    add_to(sys, start, sectors);
 }
 
 // remove DISK NUMBER
 pub fn remove() {
-    let number = args::number(3);
-    if !are_numbers(number, 0, 0) {
+    let number = args::number_for(3, b"NUMBER");
+    if 4294967295 < number {
         return not_understood();
     }
     let mut w = request(0, 0, 0, 0, shape_of(0, 0, 0));
     w.removes = true;
     w.number = number as usize;
-    begin(4, 0, w);
+    begin(4, 4, w);
 }

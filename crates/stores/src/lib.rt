@@ -77,7 +77,7 @@ fn put(fd: i32, sector: u32, lba: u32, record: &[u8]) -> bool {
 }
 
 // The LBA of a store.
-fn lba_of(s: &[u8]) -> u32 {
+pub fn lba_of(s: &[u8]) -> u32 {
     if s.len() < 4 {
         return 0;
     }
@@ -89,48 +89,103 @@ fn put_store(fd: i32, sector: u32, s: &[u8]) -> bool {
     if s.len() != 516 {
         return false;
     }
-    put(fd, sector, lba_of(s), slices::behind(s, 4))
+    put(fd, sector, lba_of(s), record_of(s))
 }
 
 // One or two stores, in their order.
 pub fn put_all(fd: i32, sector: u32, out: &[u8], n: usize) -> bool {
-    if !put_store(fd, sector, slices::part(out, 516)) {
+    if !put_store(fd, sector, first(out)) {
         return false;
     }
     if n < 2 {
         return true;
     }
-    put_store(fd, sector, slices::part(slices::behind(out, 516), 516))
+    put_store(fd, sector, second(out))
 }
 
-// A byte as hex digits; the last of a line ends it.
-fn show_byte(b: u8, last: bool) {
-    io::print_hex(1, b as u64, 2);
-    if last {
-        io::write_all(1, b"\n");
-        return;
+fn show_byte(b: u8) -> bool {
+    if !io::write_all(1, b" ") {
+        return false;
     }
-    io::write_all(1, b" ");
+    io::print_hex(1, b as u64, 2)
 }
 
-// A record as hex digits, 16 bytes to a line.
-fn show_record(r: &[u8]) {
-    for i in 0..r.len() {
-        show_byte(r[i], i % 16 == 15);
+// The bytes as hex digits, on standard output.
+fn show_bytes(s: &[u8]) -> bool {
+    for i in 0..s.len() {
+        if !show_byte(s[i]) {
+            return false;
+        }
     }
+    io::write_all(1, b"\n")
 }
 
-fn show_store(s: &[u8]) {
-    io::write_all(1, b"store ");
-    io::print_decimal(1, lba_of(s) as u64);
-    io::write_all(1, b"\n");
-    show_record(slices::behind(s, 4));
-}
-
-// The stores on standard output.
-pub fn show_all(out: &[u8], n: usize) {
-    show_store(slices::part(out, 516));
-    if 2 <= n {
-        show_store(slices::part(slices::behind(out, 516), 516));
+// A line of 16 bytes of a record, with its offset in front; nothing if they are all zeros.
+fn show_line(r: &[u8], at: usize) -> bool {
+    let line = slices::part(slices::behind(r, at), 16);
+    if slices::same(line, &[0u8; 16]) {
+        return true;
     }
+    if !io::print_hex(1, at as u64, 3) {
+        return false;
+    }
+    show_bytes(line)
+}
+
+// The offset of a line.
+fn offset(i: u32) -> usize {
+    if i < 32 {
+        return i as usize * 16;
+    }
+    0
+}
+
+// The lines of a record that are not all zeros.
+fn show_record(r: &[u8]) -> bool {
+    let lines: u32 = 32;
+    for i in 0..lines {
+        if !show_line(r, offset(i)) {
+            return false;
+        }
+    }
+    true
+}
+
+fn show_store(s: &[u8]) -> bool {
+    if !io::write_all(1, b"store ") {
+        return false;
+    }
+    if !io::print_decimal(1, lba_of(s) as u64) {
+        return false;
+    }
+    if !io::write_all(1, b"\n") {
+        return false;
+    }
+    show_record(record_of(s))
+}
+
+// The first store of a change.
+pub fn first(out: &[u8]) -> &[u8] {
+    slices::part(out, 516)
+}
+
+// The second one.
+pub fn second(out: &[u8]) -> &[u8] {
+    slices::part(slices::behind(out, 516), 516)
+}
+
+// The record of a store.
+pub fn record_of(s: &[u8]) -> &[u8] {
+    slices::behind(s, 4)
+}
+
+// The stores on standard output; false if they cannot be written there.
+pub fn show_all(out: &[u8], n: usize) -> bool {
+    if !show_store(first(out)) {
+        return false;
+    }
+    if n < 2 {
+        return true;
+    }
+    show_store(second(out))
 }

@@ -1,5 +1,9 @@
 // The program's arguments.
 use crate::slices;
+use crate::wrong;
+
+// The program looks at no argument from this place on.
+pub const MOST: usize = 24;
 
 // What no number is read as.
 pub const NO_NUMBER: u64 = 4294967296;
@@ -54,9 +58,18 @@ pub fn number(i: usize) -> u64 {
     decimal(&space[..n])
 }
 
+// The number that the argument spells; NO_NUMBER, and said why, if it spells none.
+pub fn number_for(i: usize, name: &[u8]) -> u64 {
+    let v = number(i);
+    if 4294967295 < v {
+        wrong::argument(i, name, b"a whole number up to 4294967295");
+    }
+    v
+}
+
 // The first argument from a place on that is this word; 0 if none is.
 pub fn find(from: usize, word: &[u8]) -> usize {
-    for i in from..16 {
+    for i in from..MOST {
         if is(i, word) {
             return i;
         }
@@ -73,7 +86,7 @@ pub fn option(from: usize, word: &[u8], other: u64) -> Given {
             words: 0,
         };
     }
-    if 16 <= i {
+    if MOST <= i {
         return Given {
             value: NO_NUMBER,
             words: 0,
@@ -85,12 +98,47 @@ pub fn option(from: usize, word: &[u8], other: u64) -> Given {
     }
 }
 
-// How many arguments an option without a value takes: 1 if it is there.
-pub fn flag(from: usize, word: &[u8]) -> u8 {
-    if find(from, word) == 0 {
-        return 0;
+// The number behind an option, as above; NO_NUMBER, and said why, if it is none.
+pub fn option_for(from: usize, word: &[u8], other: u64) -> u64 {
+    let given = option(from, word, other);
+    let v = given.value;
+    if 4294967295 < v {
+        wrong::argument(
+            behind(find(from, word)),
+            word,
+            b"a whole number up to 4294967295",
+        );
     }
-    1
+    v
+}
+
+// The next place.
+pub fn behind(i: usize) -> usize {
+    if i < MOST {
+        return i + 1;
+    }
+    i
+}
+
+// Is the option there?
+pub fn flag(from: usize, word: &[u8]) -> bool {
+    find(from, word) != 0
+}
+
+// Is the option there once at most? If not, it is said.
+pub fn is_single(from: usize, word: &[u8]) -> bool {
+    let i = find(from, word);
+    if i == 0 {
+        return true;
+    }
+    if MOST <= i {
+        return true;
+    }
+    if find(i + 1, word) == 0 {
+        return true;
+    }
+    wrong::twice(word);
+    false
 }
 
 // The value of a hex digit; 16 for another byte.
@@ -122,20 +170,22 @@ fn hex(s: &[u8]) -> u16 {
 }
 
 // The type that the argument spells.
-pub fn kind(i: usize) -> u16 {
+fn kind(i: usize) -> u16 {
     let mut space = io::buffer();
     let n = os::arg(i, &mut space);
     hex(&space[..n])
 }
 
-pub fn is_sector_size(n: u64) -> bool {
-    if 4096 < n {
-        return false;
+// The type that the argument spells; 256, and said why, if it spells none.
+pub fn kind_for(i: usize) -> u16 {
+    let v = kind(i);
+    if 255 < v {
+        wrong::argument(i, b"TYPE", b"two hex digits");
     }
-    extractrules::size_ok(n as u32)
+    v
 }
 
-// The command that the first argument names: 1 list, 2 extract, 3 push, 4 remove, 5 --help; 0 if it names none.
+// The command that the first argument names: 1 list, 2 extract, 3 push, 4 remove; 0 if it names none.
 pub fn command() -> u8 {
     if is(1, b"list") {
         return 1;
@@ -149,8 +199,13 @@ pub fn command() -> u8 {
     if is(1, b"remove") {
         return 4;
     }
-    if is(1, b"--help") {
-        return 5;
-    }
     0
+}
+
+// Is one of the arguments a question for help?
+pub fn asks_help() -> bool {
+    if flag(1, b"--help") {
+        return true;
+    }
+    flag(1, b"-h")
 }

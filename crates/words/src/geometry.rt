@@ -1,42 +1,40 @@
 // The option that spells a geometry, C/H/S.
 use crate::args;
 use crate::slices;
+use crate::wrong;
 
-// Cylinders, heads and sectors of a geometry, how many arguments it took, and whether it is one.
+// Cylinders, heads and sectors of a geometry, and whether it is one.
 pub struct Shape {
     pub cylinders: u16,
     pub heads: u8,
     pub sectors: u8,
-    pub words: u8,
     pub good: bool,
 }
 
 // No geometry.
-pub fn none(words: u8, good: bool) -> Shape {
+pub fn none(good: bool) -> Shape {
     Shape {
         cylinders: 0,
         heads: 0,
         sectors: 0,
-        words: words,
         good: good,
     }
 }
 
 fn shape_of(c: u64, h: u64, s: u64) -> Shape {
     if 65535 < c {
-        return none(2, false);
+        return none(false);
     }
     if 255 < h {
-        return none(2, false);
+        return none(false);
     }
     if 255 < s {
-        return none(2, false);
+        return none(false);
     }
     Shape {
         cylinders: c as u16,
         heads: h as u8,
         sectors: s as u8,
-        words: 2,
         good: true,
     }
 }
@@ -62,16 +60,18 @@ fn spelt(s: &[u8]) -> Shape {
     shape_of(first(s), first(heads), args::decimal(sectors))
 }
 
-// The geometry behind an option, or none.
+// The geometry behind an option, or none; not a good one, and said why, if it is spelt wrong.
 pub fn option(from: usize, word: &[u8]) -> Shape {
     let i = args::find(from, word);
     if i == 0 {
-        return none(0, true);
+        return none(true);
     }
-    if 16 <= i {
-        return none(0, false);
-    }
+    let at = args::behind(i);
     let mut space = io::buffer();
-    let n = os::arg(i + 1, &mut space);
-    spelt(&space[..n])
+    let n = os::arg(at, &mut space);
+    let shape = spelt(&space[..n]);
+    if !shape.good {
+        wrong::argument(at, word, b"C/H/S, with C up to 65535, H and S up to 255");
+    }
+    shape
 }

@@ -31,6 +31,26 @@ pub fn same(a: &[u8], b: &[u8]) -> bool {
     base::stands_at(a, 0, b)
 }
 
+// Do the bytes begin with this word?
+pub fn begins(s: &[u8], word: &[u8]) -> bool {
+    if s.len() < word.len() {
+        return false;
+    }
+    base::stands_at(s, 0, word)
+}
+
+// Does the word stand somewhere in the bytes?
+pub fn has(s: &[u8], word: &[u8]) -> bool {
+    let mut i = 0;
+    while i < s.len() {
+        if begins(behind(s, i), word) {
+            return true;
+        }
+        i += 1;
+    }
+    false
+}
+
 // Where the byte stands first, or the length.
 pub fn find(s: &[u8], b: u8) -> usize {
     let mut i = 0;

@@ -6,10 +6,10 @@ use Rattle.gather.proofs.collect.Statement.{statement}
 use Rattle.gather.proofs.collect.Tie as tie
 
 abbrev Inv-loop : tie.InvT-loop
-Inv-loop fd sector x₀ first n₀ most t8 counter₀ x n counter = length x ≡ length x₀
+Inv-loop fd sector x₀ first n₀ most counter₀ x n counter = length x ≡ length x₀
 
 abbrev μ-loop : tie.MeasureT-loop
-μ-loop fd sector x₀ first n₀ most t8 counter₀ x n counter = most - counter
+μ-loop fd sector x₀ first n₀ most counter₀ x n counter = most - counter
 
 loop-holds : tie.Need-loop-holds Inv-loop μ-loop
 loop-holds c = search needs
@@ -32,12 +32,6 @@ loop-less c = search needs
 loop-again : tie.Need-loop-again Inv-loop μ-loop
 loop-again c = search needs
 
-slice-aggregate-failed : tie.Need-slice-aggregate-failed Inv-loop μ-loop
-slice-aggregate-failed c = search needs
-
-failed-requires : tie.Need-failed-requires Inv-loop μ-loop
-failed-requires c κs = search needs
-
 same-length-2 : tie.Need-same-length-2 Inv-loop μ-loop
 same-length-2 c = search needs
 
@@ -57,7 +51,5 @@ collect-spec =
     add-counter
     loop-less
     loop-again
-    slice-aggregate-failed
-    failed-requires
     same-length-2
     returns-2)

@@ -1,24 +1,25 @@
 use Prim.Native.Nat.{_-_}
 use borrow.Author.Needs.{needs}
-use lib.ListN.{length}
-use mathlib.Core.Path.{_≡_}
 use Rattle.stores.proofs.show_record.Statement.{statement}
 use Rattle.stores.proofs.show_record.Tie as tie
 
 abbrev Inv-loop : tie.InvT-loop
-Inv-loop r i₀ i-end i = i-end ≡ length r
+Inv-loop r lines i₀ i = Unit {0}
 
 abbrev μ-loop : tie.MeasureT-loop
-μ-loop r i₀ i-end i = length r - i
+μ-loop r lines i₀ i = 32 - i
 
 loop-holds : tie.Need-loop-holds Inv-loop μ-loop
 loop-holds c = search needs
 
-shared-slice-read-show-byte : tie.Need-shared-slice-read-show-byte Inv-loop μ-loop
-shared-slice-read-show-byte c = search needs
+offset-requires : tie.Need-offset-requires Inv-loop μ-loop
+offset-requires c κs = search needs
 
-show-byte-requires : tie.Need-show-byte-requires Inv-loop μ-loop
-show-byte-requires c κs = search needs
+show-line-requires : tie.Need-show-line-requires Inv-loop μ-loop
+show-line-requires c κs = search needs
+
+returns : tie.Need-returns Inv-loop μ-loop
+returns c = search needs
 
 add-i : tie.Need-add-i Inv-loop μ-loop
 add-i c = search needs
@@ -29,8 +30,8 @@ loop-less c = search needs
 loop-again : tie.Need-loop-again Inv-loop μ-loop
 loop-again c = search needs
 
-returns : tie.Need-returns Inv-loop μ-loop
-returns c = search needs
+returns-2 : tie.Need-returns-2 Inv-loop μ-loop
+returns-2 c = search needs
 
 pub show-record-spec : {M : Type 1} → statement M
 show-record-spec =
@@ -39,9 +40,10 @@ show-record-spec =
     Inv-loop
     μ-loop
     loop-holds
-    shared-slice-read-show-byte
-    show-byte-requires
+    offset-requires
+    show-line-requires
+    returns
     add-i
     loop-less
     loop-again
-    returns)
+    returns-2)

@@ -1,5 +1,6 @@
 // What the disk's own records say that a listing does not: of the extended partition's first sector, and of a GUID table.
 use ebr::Opened;
+use extract::Header;
 use extract::Outcome;
 use mbr::Found;
 use mbr::MBRHeader;
@@ -48,6 +49,21 @@ pub fn state(x: &[u8]) -> u8 {
     match extended(x) {
         Found::Nothing => NONE,
         Found::Entry(e) => state_of(look::look_up(x, e.starting_lba)),
+    }
+}
+
+fn disk_size(x: &[u8]) -> u32 {
+    match extract::check(x) {
+        Header::Good(e) => e.disk_size,
+        Header::Refused(_) => 0,
+    }
+}
+
+// Is there an extended partition, and does it end by the disk's end?
+pub fn fits(x: &[u8]) -> bool {
+    match extended(x) {
+        Found::Nothing => false,
+        Found::Entry(e) => e.starting_lba as u64 + e.sectors as u64 <= disk_size(x) as u64,
     }
 }
 

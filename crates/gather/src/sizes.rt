@@ -4,7 +4,11 @@ use extract::Outcome;
 use said::say;
 use words::slices;
 
+// Does the extract read as a table with a chain, in an extended partition that the disk has room for?
 fn reads_chain(x: &[u8]) -> bool {
+    if !first::fits(x) {
+        return false;
+    }
     let r = read::read_from(x);
     let answer = r.answer;
     match answer {

@@ -29,11 +29,11 @@ fn save_fits(from: usize, dry: bool) -> bool {
     let mut path = io::buffer();
     let n = os::arg(at, &mut path);
     if n == 0 {
-        wrong::argument(at, b"--save", b"the name of a new file");
+        wrong::behind(at, b"--save", b"the name of a new file");
         return false;
     }
     if slices::begins(&path[..n], b"--") {
-        wrong::argument(at, b"--save", b"the name of a new file");
+        wrong::behind(at, b"--save", b"the name of a new file");
         return false;
     }
     true

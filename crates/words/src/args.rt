@@ -103,7 +103,7 @@ pub fn option_for(from: usize, word: &[u8], other: u64) -> u64 {
     let given = option(from, word, other);
     let v = given.value;
     if 4294967295 < v {
-        wrong::argument(
+        wrong::behind(
             behind(find(from, word)),
             word,
             b"a whole number up to 4294967295",

@@ -71,7 +71,7 @@ pub fn option(from: usize, word: &[u8]) -> Shape {
     let n = os::arg(at, &mut space);
     let shape = spelt(&space[..n]);
     if !shape.good {
-        wrong::argument(at, word, b"C/H/S, with C up to 65535, H and S up to 255");
+        wrong::behind(at, word, b"C/H/S, with C up to 65535, H and S up to 255");
     }
     shape
 }

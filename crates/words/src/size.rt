@@ -33,7 +33,7 @@ fn value(from: usize, name: &[u8], given: Given) -> u32 {
     }
     let i = args::find(from, name);
     if i < 4096 {
-        wrong::argument(i + 1, b"the sector size", b"512, 1024, 2048 or 4096");
+        wrong::behind(i + 1, name, b"512, 1024, 2048 or 4096");
     }
     0
 }

@@ -16,10 +16,8 @@ fn expected(what: &[u8]) {
     say::text(b"\n");
 }
 
-// The argument at a place, which stands for something, is missing or is another word than expected.
-pub fn argument(i: usize, name: &[u8], what: &[u8]) {
-    say::text(b"failed: ");
-    say::text(name);
+// It is missing, or it is another word than expected.
+fn is_wrong(i: usize, what: &[u8]) {
     if os::arg_count() <= i {
         say::text(b" is missing");
         return expected(what);
@@ -27,6 +25,20 @@ pub fn argument(i: usize, name: &[u8], what: &[u8]) {
     say::text(b" is ");
     quote(i);
     expected(what);
+}
+
+// The argument at a place, which has a name, is missing or is another word than expected.
+pub fn argument(i: usize, name: &[u8], what: &[u8]) {
+    say::text(b"failed: ");
+    say::text(name);
+    is_wrong(i, what);
+}
+
+// The same of the argument behind an option.
+pub fn behind(i: usize, option: &[u8], what: &[u8]) {
+    say::text(b"failed: the word behind ");
+    say::text(option);
+    is_wrong(i, what);
 }
 
 // The argument at a place stands where nothing of its kind is understood.

@@ -2,7 +2,8 @@
    STATION_AT is the number of the call, pwrite and fsync counted together from 1; STATION_HOW what happens to it:
    kill (SIGKILL right after it), before (SIGKILL right before it), fail (-1 and EIO, nothing written),
    cut (only STATION_CUT bytes are written, by this pwrite and each later one), once (by this pwrite alone),
-   torn (by this pwrite, with SIGKILL right after it). STATION_LOG, a file, gets a line for each call. */
+   torn (by this pwrite, with SIGKILL right after it). STATION_LOG, a file, gets a line for each call.
+   STATION_CHANGE names a file whose byte STATION_BYTE is changed by another hand before the pread of number STATION_PREAD. */
 #define _GNU_SOURCE
 #include <dlfcn.h>
 #include <errno.h>
@@ -80,6 +81,31 @@ ssize_t pwrite(int fd, const void *bytes, size_t n, off_t at)
 ssize_t pwrite64(int fd, const void *bytes, size_t n, off_t at)
 {
     return pwrite(fd, bytes, n, at);
+}
+
+static void meddle(void)
+{
+    const char *name = getenv("STATION_CHANGE");
+    ssize_t (*real)(int, const void *, size_t, off_t) = dlsym(RTLD_NEXT, "pwrite");
+    int fd = open(name, O_WRONLY);
+    if (fd < 0 || real(fd, "\x5a", 1, number("STATION_BYTE")) != 1)
+        abort();
+    close(fd);
+}
+
+ssize_t pread(int fd, void *bytes, size_t n, off_t at)
+{
+    static int preads;
+    ssize_t (*real)(int, void *, size_t, off_t) = dlsym(RTLD_NEXT, "pread");
+    preads++;
+    if (getenv("STATION_CHANGE") && preads == number("STATION_PREAD"))
+        meddle();
+    return real(fd, bytes, n, at);
+}
+
+ssize_t pread64(int fd, void *bytes, size_t n, off_t at)
+{
+    return pread(fd, bytes, n, at);
 }
 
 int fsync(int fd)

@@ -121,7 +121,7 @@ def first_sector(folder):
         before = content(path)
         told = expect(("list", path), 0, "2 05 00 8192 30000", "warning: sector 8192", "sfdisk may still show zones", "first entry")
         if told[1] != "disk 40960 align 2048 logical 0\n1 83 00 2048 4096\n2 05 00 8192 30000\n":
-            fail("the listing is document 01's", told)
+            fail("the listing is the scope document's", told)
         for more in ((), ("--dry-run",)):
             expect(("push", path, "83", 8192, 4096, *more), 2, "failed", "sector 8192", "--overwrite-first goes on")
         if content(path) != before:

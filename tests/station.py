@@ -250,7 +250,8 @@ def try_change(image, args, made, sfdisk=False):
     if STRACE:
         put_back(image, kept)
         traced(args, image, made.stores)
-    for how, at, cut in attempts(calls, image.size):
+    # Under an emulator each run takes long.
+    for how, at, cut in list(attempts(calls, image.size))[::5 if QUICK and x86.KIT else 1]:
         put_back(image, kept)
         stop(image, args, how, at, cut, kept, made.stores)
         if how == "torn" and at == calls - 1 and 0 < cut < 512:

@@ -273,6 +273,11 @@ def previews(folder):
             done = subprocess.run([STATION, *map(str, args)], stdout=full, stderr=subprocess.PIPE)
             if done.returncode != 2 or b"failed: standard output cannot be written" not in done.stderr:
                 fail("output that cannot be written is a failure", args, done)
+        copy = folder + "/copy.img"
+        Path(copy).write_bytes(before)
+        done = subprocess.run([STATION, "remove", copy, "5"], stdout=full, stderr=subprocess.PIPE)
+        if done.returncode != 2 or b"the word done cannot be written" not in done.stderr or len(zones(copy)) != 2:
+            fail("a word that cannot be written is a failure", done)
     extract = subprocess.run([STATION, "extract", path], stdout=subprocess.PIPE).stdout
     for name in (folder + "/no/such", path, folder):
         expect(("remove", path, 5, "--save", name), 2, "failed", "nothing was stored on the disk")

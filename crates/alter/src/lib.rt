@@ -34,7 +34,7 @@ pub fn end(good: bool) {
         return;
     }
     if !io::write_all(1, b"done\n") {
-        say::failed(b"standard output cannot be written");
+        say::failed(b"the word done cannot be written on standard output: list the disk");
     }
 }
 

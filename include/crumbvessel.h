@@ -1,8 +1,11 @@
 /* Crumbvessel for programs in C: MBR tables from extracts, as bytes and numbers. x86-64 Linux.
  *
- * Link the archives of the functions in use: libabi.a, libabiaddress.a, libabicareful.a, libabitable.a, libabiedit.a,
- * libabilook.a, libabisound.a, libabifree.a, libabiwrite.a, libabiheader.a, libabichs.a (`rt staticlib NAME` makes
- * libNAME.a).
+ * `./build install PREFIX` puts libcrumbvessel.a, this header and crumbvessel.pc under PREFIX, where pkg-config finds them
+ * (for /usr/local by itself, else by PKG_CONFIG_PATH=PREFIX/lib/pkgconfig). A program, examples/list.c for one, is built by
+ *
+ *     cc examples/list.c $(pkg-config --cflags --libs crumbvessel)
+ *
+ * Of the archive a program gets the parts whose functions it calls.
  *
  * Lent bytes are an address and a length. The address is never null, also where the length is 0. Bytes that a function
  * writes overlap nothing else that the same call is lent. No function keeps an address or allocates. A refusal leaves
@@ -13,6 +16,8 @@
  */
 #ifndef CRUMBVESSEL_H
 #define CRUMBVESSEL_H
+
+#define CV_VERSION "0.1.0"
 
 #include <stdbool.h>
 #include <stddef.h>
@@ -119,7 +124,7 @@ static inline uint8_t cv_sector(uint64_t answer) { return (uint8_t)answer; }
 #define CV_ENTRY_START 10
 #define CV_ENTRY_SECTORS 14
 
-/* libabiaddress.a */
+/* Addresses and types. */
 
 /* The address of a sector; 7, 13, 14. */
 uint64_t cv_chs_from_lba_exact(uint32_t lba, uint16_t cylinders, uint8_t heads, uint8_t sectors);
@@ -135,7 +140,7 @@ uint64_t cv_chs_from_bytes(uint8_t one, uint8_t two, uint8_t three);
 /* Whether a type is an extended partition's: 05, 0F, 85, C5, D5. */
 bool cv_is_extended(uint8_t type);
 
-/* libabi.a */
+/* Extracts and the listing. */
 
 /* 0, or 1 for an extract that breaks a rule. */
 uint8_t cv_extract_check(const uint8_t *x, size_t x_length);
@@ -152,7 +157,7 @@ uint64_t cv_lay_over(const uint8_t *x, size_t x_length, uint32_t lba, const uint
 /* The listing, or `refused ` and a number, as text: its length; 19. */
 uint64_t cv_listing(const uint8_t *x, size_t x_length, uint8_t *out, size_t out_length);
 
-/* libabicareful.a: the stores stand in `out` in the order in which they are to be written, each on the disk before the
+/* Careful changes: the stores stand in `out` in the order in which they are to be written, each on the disk before the
  * next one is. */
 
 /* Careful push: the number of stores; 1 to 7 of reading, 20, 23, push's, 12, 21, 19. `track` is the geometry's sectors. */
@@ -161,7 +166,7 @@ uint64_t cv_careful_push(const uint8_t *x, size_t x_length, uint32_t align, uint
 /* Careful removal of logical partition `number`, 5 and up: the number of stores; 1 to 7 of reading, 20, 17, 19. */
 uint64_t cv_careful_remove(const uint8_t *x, size_t x_length, uint32_t number, uint8_t *out, size_t out_length);
 
-/* libabitable.a */
+/* Tables as blocks: reading, push, removal. */
 
 /* The table that an extract reads as, as a block: 0; 1 to 7 of reading, 101. */
 uint8_t cv_read(const uint8_t *x, size_t x_length, uint8_t *out, size_t out_length);
@@ -173,7 +178,7 @@ uint64_t cv_push(uint8_t *block, size_t block_length, uint8_t type, uint32_t sta
  * other byte is written. */
 uint8_t cv_remove(uint8_t *block, size_t block_length, uint32_t number);
 
-/* libabiedit.a */
+/* Removal by a sector, a new table, a table on another disk. */
 
 /* Removal of the partition at a sector from the table of a block, in place: 0; 101, 6, 102, 7, 15. Its number is what
  * cv_find_at_sector says of the given block; a primary's entry becomes zeros. */
@@ -184,7 +189,7 @@ uint8_t cv_new_from(const uint8_t *x, size_t x_length, uint32_t disk_signature, 
 /* Puts the sector size and D of an extract into the table of a block, in place: 0; 101, 6, 102, 1. */
 uint8_t cv_update_from(uint8_t *block, size_t block_length, const uint8_t *x, size_t x_length);
 
-/* libabilook.a */
+/* Lookup. */
 
 /* The number of the partition at a sector, in the table of a block; 101, 6, 102, 7; CV_NOTHING. */
 uint64_t cv_find_at_sector(const uint8_t *block, size_t block_length, uint32_t sector);
@@ -198,12 +203,12 @@ uint64_t cv_check_geometry(const uint8_t *block, size_t block_length);
 /* The sectors of a cylinder by the geometry in the table of a block, heads times sectors; 101, 6, 102. */
 uint64_t cv_get_cylinder_size(const uint8_t *block, size_t block_length);
 
-/* libabisound.a */
+/* Soundness. */
 
 /* Whether the table of a block is sound, 1 or 0; 101, 6, 102. */
 uint64_t cv_is_sound(const uint8_t *block, size_t block_length);
 
-/* libabifree.a: free runs as mbrman finds them, which is no truth about what is free. */
+/* Free runs as mbrman finds them, which is no truth about what is free. */
 
 /* The free runs of the table of a block, run i at CV_RUN * i of `out`, the bytes behind the last as before: their number,
  * at most 30; 101, 6, 102, 7, 19. */
@@ -218,7 +223,7 @@ uint64_t cv_get_maximum_partition_size(const uint8_t *block, size_t block_length
 /* The sectors to which partition `number` can grow; 101, 6, 102, 7 of the free runs, 15, 7. */
 uint64_t cv_get_maximum_partition_size_for(const uint8_t *block, size_t block_length, uint32_t number);
 
-/* libabiwrite.a */
+/* Writing. */
 
 /* Writes the table of a block over an extract, the new extract to `out`: its length, at most CV_EXTRACT(64); and the block
  * becomes that of the table as writing leaves it: its slots below the count and their tags are written, and no other byte
@@ -226,7 +231,7 @@ uint64_t cv_get_maximum_partition_size_for(const uint8_t *block, size_t block_le
 uint64_t cv_write_into(uint8_t *block, size_t block_length, const uint8_t *x, size_t x_length, uint8_t *out,
                        size_t out_length);
 
-/* libabiheader.a */
+/* A header alone. */
 
 /* The header of an extract, CV_HEADER bytes: 0; 1, 2, 3, 4, 101. */
 uint8_t cv_read_header(const uint8_t *x, size_t x_length, uint8_t *out, size_t out_length);
@@ -234,7 +239,7 @@ uint8_t cv_read_header(const uint8_t *x, size_t x_length, uint8_t *out, size_t o
 uint64_t cv_write_header(const uint8_t *header, size_t header_length, const uint8_t *x, size_t x_length, uint8_t *out,
                          size_t out_length);
 
-/* libabichs.a */
+/* A logical partition alone. */
 
 /* update_chs on the logical partition in a lone slot of CV_LONE_SLOT bytes, in place: its four addresses; the last link
  * address is there afterwards if the link sectors are, the bytes of an absent value become zero. 0; 101, 102, 7, 13, 14. */

@@ -1,4 +1,4 @@
-//! memcpy and memmove that count: the archives call libc's, and find these instead.
+//! memcpy and memmove that count: the archive calls libc's, and finds these instead.
 
 use std::arch::asm;
 use std::sync::atomic::{AtomicU64, Ordering::Relaxed};

@@ -1,4 +1,4 @@
-//! The proved library's functions, from the archives.
+//! The proved library's functions, from the archive.
 
 use crate::c::*;
 

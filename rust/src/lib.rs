@@ -1,6 +1,6 @@
 //! MBR partition tables: Crumbvessel, a proved rewrite of mbrman 0.6.1, with mbrman's names and signatures.
 //!
-//! What this crate computes it asks of archives whose every function is proved to answer what its contract says; the Rust
+//! What this crate computes it asks of an archive whose every function is proved to answer what its contract says; the Rust
 //! code here turns tables into their bytes and back, reads, and writes. For a program that uses mbrman see
 //! docs/MIGRATING.md. New are [`careful_push`] and [`careful_remove`], changes of a disk that survive a pulled drive.
 //!

@@ -1,4 +1,4 @@
-//! The proved library in this process: the archives that `rt staticlib` writes, answering case lines. None: there is no
+//! The proved library in this process: the archive that `./build` makes, answering case lines. None: there is no
 //! function for C that answers such a line.
 
 use mbrman::MBR;
@@ -56,7 +56,7 @@ fn changed(b: &[u8], call: impl FnOnce(*mut u8, usize) -> u64) -> Result<(u32, M
 #[derive(Default)]
 pub struct Archive {
     given: Given,
-    /// O is not what the last command left, as the archives have none for it.
+    /// O is not what the last command left, as the archive has none for it.
     stale: bool,
 }
 

@@ -6,9 +6,9 @@
 //!                                         proved case programs their answers too
 //!     compare cases SEED COUNT            seeded cases, at least so many
 //!     compare ours BIN SEED COUNT         the crate and the proved case programs on seeded cases
-//!     compare archive SEED COUNT          the crate and the proved library's archives in one process
+//!     compare archive SEED COUNT          the crate and the proved library's archive in one process
 //!
-//! The last is there, and `held` holds the archives' answers to the second program's too, where it was built with the
+//! The last is there, and `held` holds the archive's answers to the second program's too, where it was built with the
 //! feature `archive`.
 
 mod adapter;
@@ -133,10 +133,10 @@ fn held(cases: &str, answers: &str, bin: Option<&str>) -> ExitCode {
     let mut tally = Tally::default();
     let mut programs = bin.map(Ours::new);
     #[cfg(feature = "archive")]
-    let (mut archives, mut linked) = (archive::Archive::default(), 0);
+    let (mut library, mut linked) = (archive::Archive::default(), 0);
     for line in cases.lines() {
         #[cfg(feature = "archive")]
-        let in_archive = archives.answer(line).and_then(|(_, said)| said);
+        let in_archive = library.answer(line).and_then(|(_, said)| said);
         if let (true, Some(p)) = (line.starts_with("# part"), &mut programs) {
             p.pause(false);
         }
@@ -197,7 +197,7 @@ fn ours(bin: &str, seed: u64, count: u64) -> ExitCode {
     tally.say(&side)
 }
 
-/// The crate and the archives; what one of them has no answer for is left out.
+/// The crate and the archive; what one of them has no answer for is left out.
 #[cfg(feature = "archive")]
 fn in_one(seed: u64, count: u64) -> ExitCode {
     let mut rng = generate::Rng::new(seed);

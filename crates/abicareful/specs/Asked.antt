@@ -2,7 +2,7 @@
 use Prim.Native.Nat.{ℕ}
 use Rattle.request.specs.declared.Request.{Request}
 
--- alignment, geometry (cylinders, heads, sectors on a track), type, start, sectors
+-- alignment, geometry (cylinders, heads, sectors on a track), type, start, sectors (rule Z73)
 abbrev pub asked : ℕ → ℕ → ℕ → ℕ → ℕ → ℕ → ℕ → Request
 asked align cylinders heads track sys start sectors =
     record {

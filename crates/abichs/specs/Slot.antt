@@ -14,7 +14,7 @@ use Rattle.push.specs.Address.{updateChs}
 abbrev pub aloneTag : List ℕ → ℕ
 aloneTag s = getD s 480 0
 
--- another length 101, an impossible tag 102
+-- another length 101, an impossible tag 102 (rules Z70 and Z71)
 abbrev pub slotChecks : List ℕ → List Check
 slotChecks s = (101 ! eqb (length s) 481) ∷ (102 ! possible (aloneTag s)) ∷ []
 
@@ -22,7 +22,7 @@ slotChecks s = (101 ! eqb (length s) 481) ∷ (102 ! possible (aloneTag s)) ∷ 
 abbrev pub slotSays : Geometry → List ℕ → Said LogicalPartition
 slotSays g s = andThen (answer (slotChecks s) (slotOf (aloneTag s) s)) (updateChs g)
 
--- the lent slot afterwards: a refusal leaves it as it was
+-- the lent slot afterwards: a refusal leaves it as it was (rule Z72)
 abbrev pub slotAfter : List ℕ → Said LogicalPartition → List ℕ
 slotAfter s (refuses k) = s
 slotAfter s (gives l) = slotPart l ++ (tagOf l ∷ [])

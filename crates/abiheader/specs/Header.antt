@@ -9,7 +9,7 @@ use Rattle.block.specs.Block.{headerIn}
 use Rattle.writing.specs.Answers.{headerLeaves}
 use Rattle.headerbytes.specs.Header.{lengthChecks}
 
--- the header in lent bytes
+-- the header in lent bytes (rule Z68)
 abbrev pub lentHeader : List ℕ → Said MBRHeader
 lentHeader b = answer (lengthChecks (length b)) (headerIn b)
 

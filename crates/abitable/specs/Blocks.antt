@@ -9,5 +9,6 @@ use Rattle.read.specs.Read.{Table, tableOf, readSays}
 abbrev pub byValue : Said Table → Said MBR
 byValue s = andThen s (λ t. gives (tableOf t))
 
+-- rule Z33
 abbrev pub tableSays : List ℕ → Said MBR
 tableSays x = byValue (readSays x)

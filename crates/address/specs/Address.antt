@@ -52,6 +52,7 @@ updateChecks g l =
     ++ addressChecks g (l .«absolute_ebr_lba» .0)
     ++ linkChecks g (l .«absolute_ebr_lba» .0) (l .«ebr_sectors»)
 
+-- rules U4 and U5
 abbrev pub linkAddress : Geometry → ℕ → MaybeSectors → MaybeChs
 linkAddress g a Absent = NoChs
 linkAddress g a (Present n) = SomeChs (addressIn g (a + n - 1))
@@ -76,7 +77,7 @@ addressed g l =
       kept = l .kept;
     }
 
--- rules U1 to U11: update_chs
+-- rules U1 to U11: update_chs (rule U17)
 unfoldable pub updateChs : Geometry → LogicalPartition → Said LogicalPartition
 updateChs g l = answer (updateChecks g l) (addressed g l)
 

@@ -58,7 +58,7 @@ digits (suc n) v = v % 256 ∷ digits n (v / 256)
 abbrev pub number : Order → List ℕ → ℕ
 number o bs = sum (inOrder o bs)
 
--- a number's n bytes (rule G8)
+-- a number's n bytes (rules G8 and Z18)
 abbrev pub bytesOf : Order → ℕ → ℕ → List ℕ
 bytesOf o n v = inOrder o (digits n v)
 

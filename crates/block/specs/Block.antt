@@ -175,7 +175,7 @@ blockBytes t =
     frontPart (t .«sector_size») (t .«disk_size») (t .align) (t .count) (t .cylinders) (t .heads) (t .sectors)
     ++ headerPart (t .header) ++ slotsPart (t .«logical_partitions») ++ tagsPart (t .«logical_partitions»)
 
--- the table in a block
+-- the table in a block (rule Z80)
 unfoldable pub tableIn : List ℕ → MBR
 tableIn b =
     record {

@@ -7,11 +7,11 @@ use Rattle.table.specs.declared.MBR.{MBR}
 use Rattle.bysector.specs.Find.{findSays}
 use Rattle.blockless.specs.Removed.{withoutNumber}
 
--- none found 15
+-- none found 15 (rule Z45)
 abbrev pub foundOn : List ℕ → ℕ → Option ℕ → Said (List ℕ)
 foundOn b count none = refuses 15
 foundOn b count (some n) = gives (withoutNumber b count n)
 
--- removal of the partition that holds a sector
+-- removal of the partition that holds a sector (rule Z43)
 abbrev pub removedAtOn : List ℕ → ℕ → MBR → Said (List ℕ)
 removedAtOn b s t = andThen (findSays t s) (foundOn b (t .count))

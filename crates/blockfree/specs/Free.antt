@@ -11,7 +11,7 @@ use Rattle.free.specs.declared.Run.{Run}
 use Rattle.free.specs.Free.{free}
 use Rattle.blockruns.specs.Runs.{runsPart}
 
--- runs for a lent output of this length: room for thirty is asked, 19
+-- runs for a lent output of this length: room for thirty is asked, 19 (rule Z57)
 abbrev pub inRoom : Said (List Run) → ℕ → Said (List Run)
 inRoom v room = andThen v (λ rs. answer ((19 ! leb 240 room) ∷ []) rs)
 
@@ -19,7 +19,7 @@ inRoom v room = andThen v (λ rs. answer ((19 ! leb 240 room) ∷ []) rs)
 abbrev pub runsFor : Said MBR → ℕ → Said (List Run)
 runsFor s room = andThen s (λ t. inRoom (free t) room)
 
--- how many there are
+-- how many there are (rule Z56)
 abbrev pub howMany : Said (List Run) → Said ℕ
 howMany v = andThen v (λ rs. gives (length rs))
 

@@ -10,7 +10,7 @@ use Rattle.base.specs.Checks.{Check, _!_, checked}
 use Rattle.entry.specs.declared.MBRPartitionEntry.{MBRPartitionEntry}
 use Rattle.block.specs.Block.{entryPart}
 
--- room for an entry of 18 bytes, else 19
+-- room for an entry of 18 bytes, else 19 (rule Z51)
 abbrev pub entryChecks : ℕ → List Check
 entryChecks room = (19 ! leb 18 room) ∷ []
 
@@ -20,7 +20,7 @@ entryStatus room (refuses k) = k
 entryStatus room (gives none) = 255
 entryStatus room (gives (some e)) = checked (entryChecks room) (λ k. k) 0
 
--- the lent bytes after: only an entry that has room is put there, at the start
+-- the lent bytes after: only an entry that has room is put there, at the start (rule Z50)
 abbrev pub entryAfter : List ℕ → Said (Option MBRPartitionEntry) → List ℕ
 entryAfter out (refuses k) = out
 entryAfter out (gives none) = out

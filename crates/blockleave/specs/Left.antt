@@ -7,7 +7,7 @@ use Rattle.table.specs.declared.MBR.{MBR}
 use Rattle.block.specs.Block.{slotsPut}
 use Rattle.settled.specs.Settle.{settledIn}
 
--- the slots of the table t in a block, as writing leaves them; as before without an extended entry
+-- the slots of the table t in a block, as writing leaves them; as before without an extended entry (rules Z65 and Z66)
 abbrev pub leftIn : Option MBRPartitionEntry → List ℕ → MBR → List ℕ
 leftIn none b t = b
 leftIn (some e) b t = slotsPut b (settledIn t (e .«starting_lba»))

@@ -10,7 +10,7 @@ use Rattle.lookup.specs.declared.Kind.{Kind}
 use Rattle.lookup.specs.declared.Kind.the-variants.{Nothing, Primary, Logical}
 use Rattle.lookup.specs.Numbers.{kindOf}
 
--- removal of a logical partition by its number
+-- removal of a logical partition by its number (rule Z42)
 abbrev pub removedOn : List ℕ → ℕ → MBR → Said (List ℕ)
 removedOn b n t = answer (removeChecks t n) (withoutSlot b (t .count) (n - 5))
 

@@ -7,7 +7,7 @@ use Rattle.place.specs.Place.{firstPlace, lastPlace, optimalPlace}
 use Rattle.blockplace.specs.declared.Which.{Which}
 use Rattle.blockplace.specs.declared.Which.the-variants.{First, Last, Optimal}
 
--- the place that is asked for
+-- the place that is asked for (rules Z60 and Z61)
 abbrev pub placeBy : Which → MBR → ℕ → Said (Option ℕ)
 placeBy First t size = firstPlace t size
 placeBy Last t size = lastPlace t size

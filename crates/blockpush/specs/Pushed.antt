@@ -7,7 +7,7 @@ use Rattle.inblock.specs.Changed.{withSlot}
 use Rattle.request.specs.Asked.{laterThan}
 use Rattle.push.specs.Push.{pushSays, newLogical, requestOf}
 
--- push: the new partition's slot behind the others
+-- push: the new partition's slot behind the others (rules Z37 and Z38)
 abbrev pub pushedOn : List ℕ → ℕ → ℕ → ℕ → MBR → Said (List ℕ)
 pushedOn b sys start sectors t =
     andThen (pushSays t sys start sectors) (λ _. gives (withSlot b (t .count) (newLogical (laterThan (t .count)) (requestOf t sys start sectors))))

@@ -6,7 +6,7 @@ use Rattle.base.specs.Bytes.{bytesOf, little}
 use Rattle.plan.specs.Plan.{pieces}
 use Rattle.free.specs.declared.Run.{Run}
 
--- a run of 8 bytes: start and length
+-- a run of 8 bytes: start and length (rule Z55)
 abbrev pub runPart : Run → List ℕ
 runPart r = bytesOf little 4 (r .start) ++ bytesOf little 4 (r .length)
 

@@ -27,7 +27,7 @@ abbrev pub turned : MBR → ℕ → Option Numbered → Said (Option ℕ)
 turned t s none = gives none
 turned t s (some h) = pick (extended (h .entry .sys)) (numberOf (amongLogicals t s)) (gives (some (h .number)))
 
--- 6, then the search (rule L16)
+-- 6, then the search (rules L16, Z48 and Z81)
 unfoldable pub findSays : MBR → ℕ → Said (Option ℕ)
 findSays t s = checked (countCheck t ∷ []) refuses (andThen (firstAt s 1 (primaries (t .header))) (turned t s))
 

@@ -54,7 +54,7 @@ unfoldable pub lastEnd : List LogicalPartition → ℕ
 lastEnd [] = 0
 lastEnd (l ∷ ls) = end (lastOf l ls)
 
--- rules K10, K11: ends by the extended end, for a first one too, 12; starts at or after the last partition's end, 21
+-- rules K10, K11: ends by the extended end, for a first one too, 12; starts at or after the last partition's end, 21 (rule K13)
 unfoldable pub spaceChecks : Request → Contents → List Check
 spaceChecks q t = (12 ! leb (placeOf q + sizeOf q) (areaEnd (extendedIn t))) ∷ (21 ! leb (lastEnd (t .logicals)) (placeOf q)) ∷ []
 
@@ -76,12 +76,12 @@ pushChange q t =
       result = relist t (firstPlace (areaOf t) (pushed q (t .logicals)));
     }
 
--- rules V2 to V6: those of a careful removal, after reading's, 20, 17, 19
+-- rules V2 to V6: those of a careful removal, after reading's, 20, 17, 19 (rule V16)
 unfoldable pub removeRefusals : ℕ → ℕ → Contents → List Check
 removeRefusals room n t =
     (20 ! soundb t) ∷ (17 ! leb 5 n) ∷ (17 ! ltb (n - 5) (length (t .logicals))) ∷ (19 ! leb roomNeeded room) ∷ []
 
--- its store; the list without that one, and the first-place rule holds
+-- its store; the list without that one, and the first-place rule holds (rule V14)
 unfoldable pub removeChange : ℕ → Contents → Change
 removeChange n t =
     record {
@@ -119,9 +119,10 @@ carefulPush d room q = changing (pushRefusals room q) (pushChange q) (read d)
 unfoldable pub carefulRemove : Disk → ℕ → ℕ → Said Change
 carefulRemove d room n = changing (removeRefusals room n) (removeChange n) (read d)
 
--- and on an extract
+-- and on an extract (rule K1)
 unfoldable pub carefulPushSays : List ℕ → ℕ → Request → Said Change
 carefulPushSays x room q = changing (pushRefusals room q) (pushChange q) (readSays x)
 
+-- rules V1, V15 and Z74
 unfoldable pub carefulRemoveSays : List ℕ → ℕ → ℕ → Said Change
 carefulRemoveSays x room n = changing (removeRefusals room n) (removeChange n) (readSays x)

@@ -39,7 +39,7 @@ pub record ClearOf (a : ℕ) (t : Contents) : Type 0 where
   pub primaries : All (λ e. Used e → ¬ (Extended e) → ¬ (In a e)) (primariesOf t)
   pub logicals : All (λ l. ¬ (In a (l .partition))) (t .logicals)
 
--- a change from the table t, safe at every stop
+-- a change from the table t, safe at every stop (rules K29 and V17)
 pub record Safe (d : Disk) (t : Contents) (c : Change) : Type 0 where
   -- one or two stores, each of a record, on a sector of the disk
   pub number : (length (c .stores) ≡ 1) ⊎ (length (c .stores) ≡ 2)

@@ -14,7 +14,7 @@ unfoldable pub storesIn : List ℕ → ℕ → List Store
 storesIn out zero = []
 storesIn out (suc n) = record { lba = number little (take 4 out); bytes = take 512 (drop 4 out) } ∷ storesIn (drop 516 out) n
 
--- the lent output after a careful change: as before if it is refused, else only the stores' own bytes change
+-- the lent output after a careful change: as before if it is refused, else only the stores' own bytes change (rule K28)
 unfoldable pub outAfter : List ℕ → Said Change → List ℕ
 outAfter out (refuses k) = out
 outAfter out (gives c) = put out 0 (storesBytes (c .stores))
@@ -23,5 +23,6 @@ outAfter out (gives c) = put out 0 (storesBytes (c .stores))
 abbrev pub countOf : Change → ℕ
 countOf c = length (c .stores)
 
+-- rule K21
 abbrev pub counted : Said Change → Said ℕ
 counted s = andThen s (λ c. gives (countOf c))

@@ -23,7 +23,7 @@ lastOf l (m ∷ ms) = lastOf m ms
 unfoldable pub leftOut : List LogicalPartition → ℕ → List LogicalPartition
 leftOut ls i = take i ls ++ drop (i + 1) ls
 
--- rules K16 to K20: into an empty chain one record at X; else the new EBR, then the former last
+-- rules K16 to K20: into an empty chain one record at X; else the new EBR, then the former last (rule K26)
 unfoldable pub pushStores : MBRPartitionEntry → List LogicalPartition → LogicalPartition → List Store
 pushStores e [] new = write e (moved e new) none ∷ []
 pushStores e (l ∷ ls) new = write e new none ∷ write e (lastOf l ls) (some new) ∷ []

@@ -84,7 +84,7 @@ follows m a rel p t =
 abbrev pub followsIn : ℕ → ℕ → ℕ → EBRHeader → Said (Option ℕ)
 followsIn m X rel h = follows m (X + rel) rel (h .«partition_1» .«starting_lba») (h .«partition_2» .«starting_lba»)
 
--- the EBR h at X + rel, to which k leads, and what follows it; m is the number of EBRs still allowed, and with none allowed the decision refuses (rules R8, R17 and R23)
+-- the EBR h at X + rel, to which k leads, and what follows it; m is the number of EBRs still allowed, and with none allowed the decision refuses (rules R8, R17, R23 and R33)
 unfoldable pub chain : (ℕ → Said EBRHeader) → ℕ → ℕ → ℕ → Link → EBRHeader → Said (List LogicalPartition)
 chain v X zero rel k h = andThen (followsIn zero X rel h) (λ o. gives [])
 chain v X (suc m) rel k h =

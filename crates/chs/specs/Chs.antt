@@ -21,11 +21,11 @@ chs c h s = record { cylinder = c; head = h; sector = s }
 abbrev pub noChs : CHS
 noChs = chs 0 0 0
 
--- the three bytes: head; (cylinder/256 mod 4)×64 + sector mod 64; cylinder mod 256 (rules C18 and C19)
+-- the three bytes: head; (cylinder/256 mod 4)×64 + sector mod 64; cylinder mod 256 (rules C18, C19 and Z77)
 abbrev pub chsBytes : CHS → List ℕ
 chsBytes c = c .head ∷ (c .cylinder / 256 % 4 * 64 + c .sector % 64) ∷ (c .cylinder % 256) ∷ []
 
--- the address in three bytes (rule C20)
+-- the address in three bytes (rules C20 and Z78)
 abbrev pub chsOf : List ℕ → CHS
 chsOf bs = chs (getD bs 1 0 / 64 * 256 + getD bs 2 0) (getD bs 0 0) (getD bs 1 0 % 64)
 
@@ -63,7 +63,7 @@ aligned lba cylinders heads sectors =
 abbrev pub behindLba : CHS → ℕ → ℕ → ℕ
 behindLba c heads sectors = c .cylinder * (heads * sectors) + c .head * sectors + c .sector
 
--- to_lba: 7 exactly when the sum before the minus one is 0 (rule C14)
+-- to_lba: 7 exactly when the sum before the minus one is 0 (rules C14 and Z76)
 abbrev pub lbaOf : CHS → ℕ → ℕ → Said ℕ
 lbaOf c heads sectors = answer ((7 ! not (eqb (behindLba c heads sectors) 0)) ∷ []) (behindLba c heads sectors - 1)
 

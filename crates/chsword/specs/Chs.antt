@@ -4,7 +4,7 @@ use Rattle.base.specs.Said.{Said, gives, refuses}
 use Rattle.chs.specs.declared.CHS.{CHS}
 use Rattle.packed.specs.Packed.{upper}
 
--- an address: cylinder, head, sector in 16, 8 and 8 bits
+-- an address: cylinder, head, sector in 16, 8 and 8 bits (rule Z26)
 abbrev pub chsWord : CHS → ℕ
 chsWord c = c .cylinder * 65536 + c .head * 256 + c .sector
 

@@ -47,6 +47,7 @@ unused sys = eqb sys 0
 abbrev pub extendedTypes : List ℕ
 extendedTypes = 0x05 ∷ 0x0F ∷ 0x85 ∷ 0xC5 ∷ 0xD5 ∷ []
 
+-- rule Z79
 abbrev pub extended : ℕ → Bool
 extended sys = among sys extendedTypes
 

@@ -37,7 +37,7 @@ headerOf x = record { «sector_size» = sectorSize x; «disk_size» = diskSector
 unfoldable pub checkSays : List ℕ → Said Extract
 checkSays x = answer (extractChecks x) (headerOf x)
 
--- what looking up says beside the record (rule X21)
+-- what looking up says beside the record (rules X21 and Z28)
 unfoldable pub lookSays : List ℕ → ℕ → Option ℕ
 lookSays x a = first-fail (lookChecks x a)
 

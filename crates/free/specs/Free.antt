@@ -42,11 +42,12 @@ every f (r ∷ rs) = f r && every f rs
 abbrev pub zone : ℕ → MBRPartitionEntry → List Run
 zone at e = pick (used (e .sys)) (run (at + e .«starting_lba») (e .sectors) ∷ []) []
 
+-- rule F8
 unfoldable pub primaryZones : List MBRPartitionEntry → List Run
 primaryZones [] = []
 primaryZones (e ∷ es) = zone 0 e ++ primaryZones es
 
--- rule F25: the crate adds the EBR's place to a start that is absolute already
+-- rule F25: the crate adds the EBR's place to a start that is absolute already (rule Z58)
 unfoldable pub logicalZones : List LogicalPartition → List Run
 logicalZones [] = []
 logicalZones (l ∷ ls) = zone (l .«absolute_ebr_lba» .0) (l .partition) ++ logicalZones ls
@@ -60,7 +61,7 @@ ends (z ∷ zs) = z .start ∷ (z .start + z .length - 1) ∷ ends zs
 abbrev pub whole : Run → Bool
 whole z = ltb 0 (z .start + z .length) && ltb (z .start + z .length) u32
 
--- the positions of an area
+-- the positions of an area (rule F24)
 abbrev pub positions : ℕ → ℕ → List Run → Said (List ℕ)
 positions from to zs = answer ((7 ! every whole zs) ∷ (7 ! ltb to u32) ∷ []) (from ∷ ends zs ++ (to ∷ []))
 
@@ -85,9 +86,11 @@ kept (r ∷ rs) = pick (ltb 0 (r .length)) (r ∷ kept rs) (kept rs)
 abbrev pub up : ℕ → Run → ℕ
 up align r = ((r .start - 1) / align + 1) * align
 
+-- rule F18
 abbrev pub rounded : ℕ → Run → Run
 rounded align r = run (r .start + (up align r - r .start)) (r .length - (up align r - r .start))
 
+-- rule F17
 abbrev pub inRange : ℕ → Run → Bool
 inRange align r = ltb (up align r) u32
 
@@ -97,6 +100,7 @@ found align ps =
     answer ((7 ! apart ps) ∷ (7 ! every (inRange align) (kept (pairs ps))) ∷ [])
     (kept (map (rounded align) (kept (pairs ps))))
 
+-- rule F10
 abbrev pub between : ℕ → Said (List ℕ) → Said (List Run)
 between align v = andThen v (λ ps. found align (sort ps))
 
@@ -113,10 +117,11 @@ abbrev pub inner : ℕ → Option MBRPartitionEntry → List LogicalPartition �
 inner align none ls = gives []
 inner align (some e) ls = area align (e .«starting_lba») (e .«starting_lba» + e .sectors) (logicalZones ls)
 
+-- rules F7 and F9
 abbrev pub outer : MBR → Said (List Run)
 outer t = area (t .align) 0 (t .«disk_size») (primaryZones (primaries (t .header)))
 
--- rules F1, F2, F21: the free runs of a table
+-- rules F1, F2, F21: the free runs of a table (rule Z59)
 unfoldable pub free : MBR → Said (List Run)
 free t =
     checked ((6 ! leb (t .count) most) ∷ (7 ! ltb 0 (t .align)) ∷ []) refuses

@@ -7,11 +7,11 @@ use Rattle.base.specs.Checks.{Check, _!_, answer}
 use Rattle.mbr.specs.declared.MBRHeader.{MBRHeader}
 use Rattle.block.specs.Block.{headerPart}
 
--- lent bytes of another length 101
+-- lent bytes of another length 101 (rule Z67)
 abbrev pub lengthChecks : ℕ → List Check
 lengthChecks n = (101 ! eqb n 520) ∷ []
 
--- a header for lent bytes of this length: 101 after its own refusals
+-- a header for lent bytes of this length: 101 after its own refusals (rule Z69)
 abbrev pub headerFor : Said MBRHeader → ℕ → Said MBRHeader
 headerFor s room = andThen s (λ h. answer (lengthChecks room) h)
 

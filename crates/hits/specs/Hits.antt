@@ -33,7 +33,7 @@ unfoldable pub firstAt : ℕ → ℕ → List MBRPartitionEntry → Said (Option
 firstAt s n [] = gives none
 firstAt s n (e ∷ es) = andThen (holdsSays s e) (λ b. pick b (gives (some (numbered n e))) (firstAt s (suc n) es))
 
--- the logical partitions are numbered from 5 on (rule L15)
+-- the logical partitions are numbered from 5 on (rules L15 and Z49)
 unfoldable pub amongLogicals : MBR → ℕ → Said (Option Numbered)
 amongLogicals t s = firstAt s 5 (parts (logicals t))
 

@@ -21,7 +21,7 @@ roomSays x a r room = answer (roomChecks x a r room) (length (newExtract x a r))
 abbrev pub roomLeaves : List ℕ → ℕ → List ℕ → List ℕ → List ℕ
 roomLeaves x a r out = checked (roomChecks x a r (length out)) (λ k. out) (put out 0 (newExtract x a r))
 
--- the new extract's length, or the first refusal (rule O15)
+-- the new extract's length, or the first refusal (rules O15 and Z30)
 unfoldable pub laySays : List ℕ → ℕ → List ℕ → ℕ → Said ℕ
 laySays x a r room = answer (layChecks x a r room) (length (newExtract x a r))
 

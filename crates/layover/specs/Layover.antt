@@ -24,7 +24,7 @@ recordBytes (s ∷ ss) = s .bytes ++ recordBytes ss
 unfoldable pub extractBytes : ℕ → ℕ → List Store → List ℕ
 extractBytes size d ss = headerBytes size d (length ss) ++ lbaBytes ss ++ recordBytes ss
 
--- a record laid over others: in the place of the one at its LBA, else before the first at a higher LBA (rules O9 and O10)
+-- a record laid over others: in the place of the one at its LBA, else before the first at a higher LBA (rules O9, O10 and W23)
 unfoldable pub laidOver : Store → List Store → List Store
 laidOver s [] = s ∷ []
 laidOver s (t ∷ ts) = pick (ltb (s .lba) (t .lba)) (s ∷ t ∷ ts) (pick (eqb (s .lba) (t .lba)) (s ∷ ts) (t ∷ laidOver s ts))

@@ -43,7 +43,7 @@ entryOf t i = ofKind t (kindOf i)
 abbrev pub getSays : MBR → ℕ → Said (Option MBRPartitionEntry)
 getSays t i = answer (countCheck t ∷ []) (entryOf t i)
 
--- primaries and logical partitions together (rule L5)
+-- primaries and logical partitions together (rules L5 and Z52)
 abbrev pub lenSays : MBR → Said ℕ
 lenSays t = answer (countCheck t ∷ []) (4 + t .count)
 

@@ -26,7 +26,7 @@ newTable size disk signature =
       «disk_size» = disk;
     }
 
--- a new table, or 1 (rules N1 and N2)
+-- a new table, or 1 (rules N1, N2 and Z46)
 unfoldable pub newSays : List ℕ → List ℕ → Said MBR
 newSays x signature = andThen (checkSays x) (λ e. gives (newTable (e .«sector_size») (e .«disk_size») signature))
 

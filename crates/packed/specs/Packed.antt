@@ -8,7 +8,7 @@ use Rattle.base.specs.Said.{Said, gives, refuses}
 abbrev pub upper : ℕ → ℕ
 upper k = k * 4294967296
 
--- rule Z19: a value below 4,294,967,296, or a refusal
+-- rule Z19: a value below 4,294,967,296, or a refusal (rules Z32 and Z75)
 abbrev pub packed : Said ℕ → ℕ
 packed (gives v) = v
 packed (refuses k) = upper k
@@ -18,7 +18,7 @@ abbrev pub status : Option ℕ → ℕ
 status none = 0
 status (some k) = k
 
--- rule Z20: nothing is 255 in the upper half, which is no refusal's number
+-- rule Z20: nothing is 255 in the upper half, which is no refusal's number (rule Z31)
 abbrev pub packedOption : Said (Option ℕ) → ℕ
 packedOption (gives none) = upper 255
 packedOption (gives (some v)) = v

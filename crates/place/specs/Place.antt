@@ -73,6 +73,7 @@ onward rule o [] = o
 onward rule none (r ∷ rs) = onward rule (some r) rs
 onward rule (some b) (r ∷ rs) = onward rule (some (prefer rule b r)) rs
 
+-- rule Q8
 abbrev pub startOf : Option Run → Option ℕ
 startOf none = none
 startOf (some r) = some (r .start)

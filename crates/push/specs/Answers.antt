@@ -24,10 +24,11 @@ use Rattle.push.specs.Push.{geometryOf}
 use Rattle.request.specs.Asked.{laterThan}
 pub use Rattle.address.specs.Answers.{geometryIn}
 
--- rules U15, U16: check_geometry and get_cylinder_size of a table, 6
+-- rules U15, U16: check_geometry and get_cylinder_size of a table, 6 (rule Z54)
 abbrev pub checkGeometrySays : MBR → Said Bool
 checkGeometrySays t = answer ((6 ! leb (t .count) most) ∷ []) (isComplete (geometryOf t))
 
+-- rule Z53
 abbrev pub cylinderSizeSays : MBR → Said ℕ
 cylinderSizeSays t = answer ((6 ! leb (t .count) most) ∷ []) (t .heads * t .sectors)
 

@@ -60,7 +60,7 @@ abbrev pub orNone : Option MBRPartitionEntry → MBRPartitionEntry
 orNone none = noEntry
 orNone (some e) = e
 
--- rules P2 to P20: push's refusals in their order, for the extended entry and n logical partitions
+-- rules P2 to P20: push's refusals in their order, for the extended entry and n logical partitions (rules K8 and K9)
 unfoldable pub pushChecks : Request → Option MBRPartitionEntry → ℕ → List Check
 pushChecks q o n =
     (8 ! isSome o)
@@ -85,6 +85,7 @@ requestOf t sys start sectors = record { align = t .align; geometry = geometryOf
 unfoldable pub tableChecks : MBR → Request → List Check
 tableChecks t q = (6 ! leb (t .count) most) ∷ pushChecks q (extendedIn t) (t .count)
 
+-- rules P32 and P33
 unfoldable pub pushedTo : MBR → Request → MBR
 pushedTo t q = withLogicals t (set (t .«logical_partitions») (t .count) (newLogical (laterThan (t .count)) q)) (t .count + 1)
 

@@ -13,7 +13,7 @@ unfoldable pub recordPlace : ℕ → List ℕ → ℕ → Option ℕ
 recordPlace at [] a = none
 recordPlace at (l ∷ ls) a = pick (eqb a l) (some at) (recordPlace (at + 512) ls a)
 
--- none if absent or refused
+-- none if absent or refused (rules Z27 and Z29)
 abbrev pub lookedPlace : List ℕ → ℕ → Option ℕ
 lookedPlace x a = checked (lookChecks x a) (λ k. none) (recordPlace (24 + count x * 4) (lbas x) a)
 

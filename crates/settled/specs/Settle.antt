@@ -34,7 +34,7 @@ atStart X l =
       kept = l .kept;
     }
 
--- so is the first logical partition
+-- so is the first logical partition (rule W22)
 unfoldable pub firstAt : ℕ → List LogicalPartition → List LogicalPartition
 firstAt X [] = []
 firstAt X (l ∷ ls) = atStart X l ∷ ls

@@ -22,6 +22,7 @@ abbrev pub Pairs : {A : Type 0} → (A → A → Type 0) → List A → Type 0
 Pairs R [] = Unit {0}
 Pairs R (x ∷ xs) = All (R x) xs × Pairs R xs
 
+-- rule S26
 unfoldable pub pairsb : {A : Type 0} → (A → A → Bool) → List A → Bool
 pairsb p [] = true
 pairsb p (x ∷ xs) = allb (p x) xs && pairsb p xs

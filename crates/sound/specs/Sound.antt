@@ -68,6 +68,7 @@ Flagged e = (e .boot ≡ 0) ⊎ (e .boot ≡ 128)
 abbrev pub Flags : Contents → Type 0
 Flags t = All Flagged (primariesOf t) × All Flagged (parts (t .logicals))
 
+-- rule S24
 unfoldable pub flagsb : Contents → Bool
 flagsb t = allb flagOk (primariesOf t) && allb flagOk (parts (t .logicals))
 
@@ -75,6 +76,7 @@ flagsb t = allb flagOk (primariesOf t) && allb flagOk (parts (t .logicals))
 abbrev pub Within : CHS → Type 0
 Within c = (c .cylinder ≤ 1023) × (c .sector ≤ 63)
 
+-- rule S20
 abbrev pub withinb : CHS → Bool
 withinb c = leb (c .cylinder) 1023 && leb (c .sector) 63
 
@@ -82,6 +84,7 @@ abbrev pub IfThere : MaybeChs → Type 0
 IfThere NoChs = Unit {0}
 IfThere (SomeChs c) = Within c
 
+-- rule S23
 abbrev pub ifThereb : MaybeChs → Bool
 ifThereb NoChs = true
 ifThereb (SomeChs c) = withinb c
@@ -89,12 +92,14 @@ ifThereb (SomeChs c) = withinb c
 abbrev pub EntryChs : MBRPartitionEntry → Type 0
 EntryChs e = Within (e .«first_chs») × Within (e .«last_chs»)
 
+-- rule S21
 abbrev pub entryChsb : MBRPartitionEntry → Bool
 entryChsb e = withinb (e .«first_chs») && withinb (e .«last_chs»)
 
 abbrev pub LogicalChs : LogicalPartition → Type 0
 LogicalChs l = EntryChs (l .partition) × (Within (l .«ebr_first_chs») × IfThere (l .«ebr_last_chs»))
 
+-- rule S22
 abbrev pub logicalChsb : LogicalPartition → Bool
 logicalChsb l = entryChsb (l .partition) && (withinb (l .«ebr_first_chs») && ifThereb (l .«ebr_last_chs»))
 
@@ -130,6 +135,7 @@ onDiskb t = allb (λ e. not (used (e .sys)) || leb (endOf e) (t .size)) (primari
 abbrev pub Apart : MBRPartitionEntry → MBRPartitionEntry → Type 0
 Apart e f = Used e → Used f → (endOf e ≤ f .«starting_lba») ⊎ (endOf f ≤ e .«starting_lba»)
 
+-- rule S25
 abbrev pub apartb : MBRPartitionEntry → MBRPartitionEntry → Bool
 apartb e f = not (used (e .sys)) || (not (used (f .sys)) || (leb (endOf e) (f .«starting_lba») || leb (endOf f) (e .«starting_lba»)))
 
@@ -191,7 +197,7 @@ AfterEbr t = All (λ l. at l < start l) (t .logicals)
 unfoldable pub afterEbrb : Contents → Bool
 afterEbrb t = allb (λ l. ltb (at l) (start l)) (t .logicals)
 
--- rule S14: ends by the next EBR or the extended end
+-- rule S14: ends by the next EBR or the extended end (rule S27)
 abbrev pub bound : ℕ → Option LogicalPartition → ℕ
 bound hi none = hi
 bound hi (some m) = at m
@@ -237,6 +243,7 @@ ofLinkb p other (Present n) = p n
 abbrev pub LinksSized : Contents → Type 0
 LinksSized t = All (λ l. OfLink (λ n. 1 ≤ n) ⊥ (l .«ebr_sectors»)) (later (t .logicals))
 
+-- rule S28
 unfoldable pub linksSizedb : Contents → Bool
 linksSizedb t = allb (λ l. ofLinkb (λ n. leb 1 n) false (l .«ebr_sectors»)) (later (t .logicals))
 
@@ -298,7 +305,7 @@ soundRules t =
     ∷ (19 ! linksCoverb t)
     ∷ []
 
--- the test: no rule is broken
+-- the test: no rule is broken (rule S29)
 unfoldable pub soundb : Contents → Bool
 soundb t = checked (soundRules t) (λ k. false) true
 

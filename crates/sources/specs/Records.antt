@@ -15,7 +15,7 @@ unfoldable pub ebrStores : MBRPartitionEntry → List LogicalPartition → List 
 ebrStores e [] = []
 ebrStores e (l ∷ ls) = write e l (next ls none) ∷ ebrStores e ls
 
--- rule W21: records laid over others, one after the other
+-- rule W21: records laid over others, one after the other (rule W24)
 unfoldable pub laidAll : List Store → List Store → List Store
 laidAll [] rs = rs
 laidAll (s ∷ ss) rs = laidAll ss (laidOver s rs)

@@ -51,6 +51,7 @@ chainOn t x room = chainChecks (geometryOf t) (extendedIn t) (diskSectors x) (lo
 abbrev pub diskOn : MBR → List ℕ → ℕ → List Check
 diskOn t x room = diskChecks x ++ chainOn t x room
 
+-- rules W3, W4 and W6
 abbrev pub headerOn : MBR → List ℕ → ℕ → List Check
 headerOn t x room = headerChecks (t .header) ++ diskOn t x room
 

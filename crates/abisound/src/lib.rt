@@ -6,7 +6,7 @@ ghost use mathlib.Core.Path.{_≡_};
 ghost use Rattle.base.specs.Said.{andThen};
 ghost use Rattle.packed.specs.Packed.{packedBool};
 ghost use Rattle.onblock.specs.Blocks.{blockSays};
-ghost use Rattle.abisound.specs.Sound.{soundSays};
+ghost use Rattle.sound.specs.Sound.{soundSays};
 
 fn sound_on(t: MBR) -> u64
     ensures { λ r. ⌜ r ≡ packedBool (soundSays t) ⌝ }

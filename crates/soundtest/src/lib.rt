@@ -2,11 +2,7 @@
 use table::LOGICALS;
 use table::MBR;
 ghost use mathlib.Core.Path.{_≡_};
-ghost use mathlib.Core.List.{[], _∷_};
-ghost use lib.Dec.{leb};
-ghost use Rattle.base.specs.Checks.{_!_, answer};
-ghost use Rattle.table.specs.Table.{most};
-ghost use Rattle.sound.specs.Sound.{contentsOf, soundb};
+ghost use Rattle.sound.specs.Sound.{soundSays};
 ghost use Rattle.soundtest.specs.Said.{soundSaid};
 
 // Sound or not, or a refusal's number.
@@ -18,7 +14,7 @@ pub enum Soundness {
 
 // The test on any table: rules S1 to S30.
 pub fn sound(t: MBR) -> Soundness
-    ensures { λ r. ⌜ soundSaid r ≡ answer ((6 ! leb (t .count) most) ∷ []) (soundb (contentsOf t)) ⌝ }
+    ensures { λ r. ⌜ soundSaid r ≡ soundSays t ⌝ }
 {
     let n = t.count;
     if LOGICALS < n {

@@ -1,7 +1,7 @@
 use mathlib.Core.Path.{sym, ap, _∙_}
 use Rattle.base.specs.Said.{Said, refusal, andThen}
 use Rattle.table.specs.declared.MBR.{MBR}
-use Rattle.abisound.specs.Sound.{soundSays}
+use Rattle.sound.specs.Sound.{soundSays}
 use Rattle.packed.specs.Packed.{packedBool}
 use Rattle.onblock.proofs.Laws.{block-refused, block-done, block-length}
 use borrow.Author.Needs.{needs}

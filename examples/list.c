@@ -12,7 +12,7 @@
 #include <crumbvessel.h>
 
 /* One byte more than the longest extract has, so that a longer file is refused. */
-static uint8_t extract[CV_EXTRACT(64) + 1];
+static uint8_t extract[CV_EXTRACT(CV_RECORDS) + 1];
 static uint8_t text[CV_LISTING];
 static uint8_t table[CV_BLOCK];
 

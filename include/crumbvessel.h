@@ -35,7 +35,7 @@ enum cv_refusal {
     CV_SIGNATURE = 3,          /* InvalidSignature */
     CV_BOOT_FLAG = 4,          /* InvalidBootFlag */
     CV_INCONSISTENT_EBR = 5,   /* InconsistentEBR */
-    CV_TOO_MANY = 6,           /* a 25th logical partition; a table handed in with a count over 24 */
+    CV_TOO_MANY = 6,           /* one logical partition more than CV_LOGICALS; a table handed in with a greater count */
     CV_ARITHMETIC = 7,         /* arithmetic leaves 32 bits or divides by zero; alignment 0 or none found */
     CV_NO_EXTENDED = 8,        /* NoExtendedPartition */
     CV_TOO_FEW_SECTORS = 9,    /* NotEnoughSectorsToCreateLogicalPartition */
@@ -51,7 +51,7 @@ enum cv_refusal {
     CV_OUTPUT_SHORT = 19,      /* the lent output is too short */
     CV_NOT_SOUND = 20,         /* careful: the table is not sound */
     CV_BEFORE_LAST = 21,       /* careful push starts before the last partition's end */
-    CV_TOO_MANY_RECORDS = 22,  /* a 65th record */
+    CV_TOO_MANY_RECORDS = 22,  /* one record more than CV_RECORDS */
     CV_BAD_REQUEST = 23,       /* careful push of type 0 or extended, or with more than 63 sectors in a geometry */
     /* none of the library's own: */
     CV_BLOCK_LENGTH = 101,     /* a lent block, header or slot is not of its length */
@@ -68,27 +68,30 @@ static inline uint16_t cv_cylinder(uint64_t answer) { return (uint16_t)(cv_value
 static inline uint8_t cv_head(uint64_t answer) { return (uint8_t)(cv_value(answer) >> 8); }
 static inline uint8_t cv_sector(uint64_t answer) { return (uint8_t)answer; }
 
-/* An extract, all numbers little-endian u32: sector size, disk sectors D, record count n (0 to 64), 24, 24 + 4n, total
- * length; then n LBAs, strictly ascending and below D; then n records, each the first 512 bytes of its sector. */
-#define CV_EXTRACT(n) (24 + 516 * (size_t)(n))
+/* The most logical partitions of a table, and the most records of an extract. */
+#define CV_LOGICALS 24
+#define CV_RECORDS 64
+
+/* An extract, all numbers little-endian u32: sector size, disk sectors D, record count n (0 to CV_RECORDS), 24, 24 + 4n,
+ * total length; then n LBAs, strictly ascending and below D; then n records, each the first 512 bytes of its sector. */
+#define CV_EXTRACT(n) (24 + CV_STORE * (size_t)(n))
 
 /* A store: LBA (u32, little-endian) and 512 bytes. Careful changes ask for room for two. */
 #define CV_STORE 516
-#define CV_STORES 1032
+#define CV_STORES (2 * CV_STORE)
 
-/* The listing asks for this room. */
-#define CV_LISTING 2048
+/* The listing asks for this room: 64 bytes for each logical partition, and for eight lines more. */
+#define CV_LISTING (64 * (CV_LOGICALS + 8))
 
-/* A run: start and length (u32, little-endian). Free runs ask for room for thirty. */
+/* A run: start and length (u32, little-endian). Free runs ask for room for the most that a table has. */
 #define CV_RUN 8
-#define CV_RUNS 240
+#define CV_RUNS (CV_RUN * (CV_LOGICALS + 6))
 
 /* A table as a block, all numbers little-endian. Front: */
-#define CV_BLOCK 12084
 #define CV_SECTOR_SIZE 0 /* u32 */
 #define CV_DISK_SIZE 4   /* u32, sectors */
 #define CV_ALIGN 8       /* u32 */
-#define CV_COUNT 12      /* u32, logical partitions, at most 24 */
+#define CV_COUNT 12      /* u32, logical partitions, at most CV_LOGICALS */
 #define CV_CYLINDERS 16  /* u16, with the next two the geometry; zeros for none */
 #define CV_HEADS 18      /* u8 */
 #define CV_SECTORS 19    /* u8 */
@@ -96,25 +99,29 @@ static inline uint8_t cv_sector(uint64_t answer) { return (uint8_t)answer; }
 #define CV_CODE 20                           /* 440 bytes */
 #define CV_DISK_SIGNATURE 460                /* 4 bytes */
 #define CV_COPY_MARK 464                     /* 2 bytes */
-#define CV_PRIMARY(i) (466 + 18 * (size_t)(i)) /* entry i, 0 to 3 */
+#define CV_PRIMARY(i) (466 + CV_ENTRY * (size_t)(i)) /* entry i, 0 to 3 */
 #define CV_BOOT_SIGNATURE 538                /* 2 bytes, 55 AA */
-#define CV_HEADER 520                        /* bytes of a header: those from CV_CODE on */
-/* Logical partitions, slot i, 0 to 23; those from the count on are unused: */
-#define CV_LOGICAL(i) (540 + 480 * (size_t)(i)) /* entry */
+#define CV_HEADER (446 + 4 * CV_ENTRY + 2)   /* bytes of a header: those from CV_CODE on */
+/* Logical partitions, CV_LOGICALS slots, i from 0 on; those from the count on are unused: */
+#define CV_SLOTS (CV_CODE + CV_HEADER)
+#define CV_LOGICAL(i) (CV_SLOTS + CV_SLOT * (size_t)(i)) /* entry */
 #define CV_EBR_LBA 18                           /* in a slot: u32, absolute */
 #define CV_EBR_SECTORS 22                       /* u32, may be absent */
 #define CV_EBR_FIRST 26                         /* address */
 #define CV_EBR_LAST 30                          /* address, may be absent */
 #define CV_EBR_CODE 34                          /* 446 bytes */
-#define CV_SLOT 480                             /* bytes of a slot */
+#define CV_SLOT (CV_EBR_CODE + 446)             /* bytes of a slot */
 /* Behind the slots their tags: that of slot i is the sum of what is there. The bytes of an absent value are zeros when
  * written and ignored when read. */
-#define CV_TAG(i) (12060 + (size_t)(i)) /* u8, 0 to 3 */
+#define CV_TAGS (CV_SLOTS + CV_SLOT * CV_LOGICALS)
+#define CV_TAG(i) (CV_TAGS + (size_t)(i)) /* u8, 0 to 3 */
 #define CV_TAG_EBR_SECTORS 1
 #define CV_TAG_EBR_LAST 2
+/* Bytes of a block. */
+#define CV_BLOCK (CV_TAGS + CV_LOGICALS)
 /* A slot alone: its CV_SLOT bytes, then its tag. */
-#define CV_LONE_TAG 480
-#define CV_LONE_SLOT 481
+#define CV_LONE_TAG CV_SLOT
+#define CV_LONE_SLOT (CV_SLOT + 1)
 /* In an entry of CV_ENTRY bytes: flag, first address, type, last address, start, sectors. An address: cylinder u16, head,
  * sector. */
 #define CV_ENTRY 18
@@ -211,7 +218,7 @@ uint64_t cv_is_sound(const uint8_t *block, size_t block_length);
 /* Free runs as mbrman finds them, which is no truth about what is free. */
 
 /* The free runs of the table of a block, run i at CV_RUN * i of `out`, the bytes behind the last as before: their number,
- * at most 30; 101, 6, 102, 7, 19. */
+ * at most CV_RUNS / CV_RUN; 101, 6, 102, 7, 19. */
 uint64_t cv_find_free_sectors(const uint8_t *block, size_t block_length, uint8_t *out, size_t out_length);
 /* A place for `size` sectors: the start of the first run that is long enough, the last aligned one in the last such run,
  * the start of the smallest; 101, 6, 102, 7; CV_NOTHING. */
@@ -225,9 +232,10 @@ uint64_t cv_get_maximum_partition_size_for(const uint8_t *block, size_t block_le
 
 /* Writing. */
 
-/* Writes the table of a block over an extract, the new extract to `out`: its length, at most CV_EXTRACT(64); and the block
- * becomes that of the table as writing leaves it: its slots below the count and their tags are written, and no other byte
- * of it; without an extended entry no byte of it at all. 101, 6, 102 of the block; 1, 3, 4, 2, 7, 13, 14, 18, 22, 19. */
+/* Writes the table of a block over an extract, the new extract to `out`: its length, at most CV_EXTRACT(CV_RECORDS); and
+ * the block becomes that of the table as writing leaves it: its slots below the count and their tags are written, and no
+ * other byte of it; without an extended entry no byte of it at all. 101, 6, 102 of the block; 1, 3, 4, 2, 7, 13, 14, 18,
+ * 22, 19. */
 uint64_t cv_write_into(uint8_t *block, size_t block_length, const uint8_t *x, size_t x_length, uint8_t *out,
                        size_t out_length);
 

@@ -3,7 +3,7 @@ from dataclasses import replace
 
 import cases as c
 import model as m
-from cases import BIG, case, note, part
+from cases import BIG, HIGHEST, MOST, case, note, part
 from disk_k import disk_k
 from model import CHS, EBR, Entry
 from read_cases import chain, chained, changed, coded, damaged, disk, records_of, with_header
@@ -79,7 +79,7 @@ AT_LIMITS = (
 )
 UNREAD = (
     disk_k()[:1055], disk(0, {}), disk(9, {}), damaged(disk_k(), 24 + 8 + 446, "01"),
-    chain_with(3, 1, {}, {"starting_lba": 100}), chained(records_of(chain(25))), chain_with(3, 1, {"starting_lba": BIG}),
+    chain_with(3, 1, {}, {"starting_lba": 100}), chained(records_of(chain(MOST + 1))), chain_with(3, 1, {"starting_lba": BIG}),
     chain_with(3, 1, {}, {"starting_lba": BIG}), chain_with(3, 1, {"boot": 1}),
 )
 
@@ -101,7 +101,7 @@ def number_cases():
     note("careful push: the lent output")
     for x in (EMPTY, disk_k()):
         near.lend(x)
-        for room in (0, 515, 516, 517, 1031, 1032, 1033, 2000):
+        for room in (0, m.STORE - 1, m.STORE, m.STORE + 1, m.STORES - 1, m.STORES, m.STORES + 1, 2000):
             push(8192, 4096, room=room)
     note("careful push: the type")
     near.lend(disk_k())
@@ -111,7 +111,7 @@ def number_cases():
 
 def place_cases():
     note("careful push: chains of several lengths, both sides of every place")
-    for n in (0, 1, 2, 3, 23, 24):
+    for n in (0, 1, 2, 3, MOST - 1, MOST):
         near.lend(sound_chain(n) if n else chained({}, disk_size=30000, extended=SPACE))
         end = 5000 + 100 * n
         for start, sectors in ((end, 100), (end - 1, 100), (end - 11 - n, 100), (end - 10 - n, 100), (24900, 100),
@@ -147,7 +147,7 @@ def place_cases():
 def refusal_cases():
     note("careful push: refusals, alone and together")
     shifted = damaged(disk_k(), 24 + 8 + 512 + 458, "01500000")
-    for x in (disk_k(), EMPTY, NO_EXTENDED, sound_chain(24), shifted, disk_k()[:1055]):
+    for x in (disk_k(), EMPTY, NO_EXTENDED, sound_chain(MOST), shifted, disk_k()[:1055]):
         near.lend(x)
         for sys, geometry in ((0x83, UNSET), (0, UNSET), (0x83, (1, 1, 64)), (0x83, (1, 1, 1))):
             for start, sectors, align in ((8192, 4096, 2048), (0, 4096, 2048), (8192, 4096, 0), (8192, 2048, 2048),
@@ -191,12 +191,12 @@ def refusal_cases():
 def removal_cases():
     note("careful removal: K")
     near.lend(disk_k())
-    for number in (0, 1, 4, 5, 6, 28, 29, 255, 256, 261, BIG, BIG + 6):
+    for number in (0, 1, 4, 5, 6, HIGHEST, HIGHEST + 1, 255, 256, 261, BIG, BIG + 6):
         remove(number)
-    for room in (0, 515, 516, 1031, 1032, 1033):
+    for room in (0, m.STORE - 1, m.STORE, m.STORES - 1, m.STORES, m.STORES + 1):
         remove(5, room)
     note("careful removal: first, middle, last, absent")
-    for n in (1, 2, 3, 5, 23, 24):
+    for n in (1, 2, 3, 5, MOST - 1, MOST):
         near.lend(sound_chain(n))
         for number in sorted({4, 5, 6, 7, 4 + n // 2, 3 + n, 4 + n, 5 + n}):
             remove(number)

@@ -6,6 +6,9 @@ import model as m
 from model import CHS, Entry
 
 BIG = 0xFFFFFFFF
+MOST = m.LOGICALS  # logical partitions of a table
+HIGHEST = 4 + MOST  # the number of the last one
+RECORDS = m.RECORDS  # records of an extract
 lines = []
 
 
@@ -437,7 +440,7 @@ def numbered(n, disk_size=100000, size=512, lbas=None):
 BREAKS = (
     ("size 0", 0, 0), ("size 256", 0, 256), ("size 768", 0, 768), ("size 8192", 0, 8192), ("size big", 0, BIG),
     ("D at the last LBA", 4, 24), ("D 0", 4, 0), ("D in the middle", 4, 17),
-    ("n one more", 8, 4), ("n one fewer", 8, 2), ("n 65", 8, 65), ("n big", 8, BIG), ("n wraps", 8, 3 + 2 ** 30),
+    ("n one more", 8, 4), ("n one fewer", 8, 2), ("n over", 8, RECORDS + 1), ("n big", 8, BIG), ("n wraps", 8, 3 + 2 ** 30),
     ("list", 12, 28), ("list big", 12, BIG), ("list 0", 12, 0),
     ("records", 16, 40), ("records low", 16, 35), ("records big", 16, BIG),
     ("total one more", 20, 1573), ("total one fewer", 20, 1571), ("total 0", 20, 0),
@@ -470,19 +473,19 @@ def extract_rule_cases():
         checked(words_extract(512, disk_size, [], []))
         for lba in (0, 1, 4095, 4096, BIG - 1, BIG):
             checked(words_extract(512, disk_size, [lba], [marked(lba)]))
-    for n in (2, 3, 63, 64, 65):
+    for n in (2, 3, RECORDS - 1, RECORDS, RECORDS + 1):
         checked(numbered(n))
         case("extract_find", 10)
         checked(numbered(n, disk_size=10 + 7 * (n - 1) + 1))
         checked(numbered(n, disk_size=10 + 7 * (n - 1)))
-    checked(numbered(64, disk_size=BIG, lbas=[BIG - 64 + i for i in range(64)]))
-    checked(numbered(64, disk_size=BIG, lbas=[BIG - 63 + i for i in range(64)]))
-    checked(numbered(64, disk_size=64, lbas=list(range(64))))
+    checked(numbered(RECORDS, disk_size=BIG, lbas=[BIG - RECORDS + i for i in range(RECORDS)]))
+    checked(numbered(RECORDS, disk_size=BIG, lbas=[BIG - RECORDS + 1 + i for i in range(RECORDS)]))
+    checked(numbered(RECORDS, disk_size=RECORDS, lbas=list(range(RECORDS))))
     for at in (1, 31, 32, 62, 63):
         for less in (7, 8):
-            lbas = rising(64)
+            lbas = rising(RECORDS)
             lbas[at] -= less
-            checked(numbered(64, lbas=lbas))
+            checked(numbered(RECORDS, lbas=lbas))
 
     note("extract: the lent length alone")
     for length in (0, 1, 4, 23, 24, 25):
@@ -516,7 +519,7 @@ def extract_rule_cases():
 
 def extract_find_cases():
     note("extract: a record by its LBA")
-    for n in (0, 1, 2, 3, 5, 63, 64):
+    for n in (0, 1, 2, 3, 5, RECORDS - 1, RECORDS):
         lend(numbered(n, disk_size=1000))
         lbas = rising(n)
         for lba in sorted({0, 9, 10, 11, 12, 17, 18, 31, 32, 227, 228, 444, 445, 451, 452, 999, 1000, 1001, BIG}
@@ -546,14 +549,14 @@ def extract_find_cases():
 def extract_lay_cases():
     record = marked(200)
     note("laying a record: first, middle, last, replaced and inserted, outputs short, full and longer")
-    for n in (0, 1, 2, 3, 63, 64):
+    for n in (0, 1, 2, 3, RECORDS - 1, RECORDS):
         lbas = rising(n)
         lend(numbered(n, disk_size=1000, size=512 << n % 4) + record)
         middle = 10 + 7 * (n // 2)
         for lba in sorted({0, 9, 10, 11, middle, middle + 1, 10 + 7 * (n - 1), 10 + 7 * n, 998, 999, 1000, BIG}):
             if lba < 0:
                 continue
-            need = 24 + 516 * min(64, len(set(lbas) | {lba}))
+            need = 24 + 516 * min(RECORDS, len(set(lbas) | {lba}))
             for length in (need, need - 1, need + 1):
                 case("o", length, 10 + n)
                 case("extract_lay", lba, 512)
@@ -579,7 +582,7 @@ def extract_lay_cases():
         case("extract_lay", lba, 512)
 
     note("laying a record: the record's length, and the order 1, 2, 22, 19")
-    for n in (0, 1, 64):
+    for n in (0, 1, RECORDS):
         for long in (0, 1, 511, 513, 1024):
             lend(numbered(n, disk_size=1000) + bytes([9]) * long)
             for lba in (10, 5, 1000):
@@ -597,7 +600,7 @@ def extract_lay_cases():
         lend(broken(numbered(3), one) + record)
         case("o", 2100, 5)
         case("extract_lay", 17, 512)
-    lend(numbered(65) + record)
+    lend(numbered(RECORDS + 1) + record)
     case("o", 34100, 6)
     case("extract_lay", 10, 512)
     case("extract_lay", 11, 512)

@@ -4,7 +4,7 @@ from dataclasses import replace
 import cases as c
 import model as m
 import table_cases as t
-from cases import BIG, note, part
+from cases import BIG, HIGHEST, MOST, note, part
 from disk_k import disk_k
 from read_cases import D, EXTENDED, chain, chained, records_of, with_header
 from table_cases import FULL, lend, on_table, one_extended
@@ -57,7 +57,7 @@ TABLES = [
     one_extended(4096, 1, disk_size=20480), one_extended(4096, 2, disk_size=20480), one_extended(4096, 2048, disk_size=20480),
     one_extended(4096, 2049, disk_size=20480), one_extended(BIG - 100, 100), one_extended(BIG - 100, 101),
     one_extended(BIG - 100, 100, 1), one_extended(2 ** 31, 1000, 2), one_extended(2 ** 31 - 5, 1000, 1), one_extended(1, 100000, 3),
-    one_extended(100, 100000, 3, step=50), one_extended(100, 100000, 24, step=50), one_extended(100, 2000, 24, step=50),
+    one_extended(100, 100000, 3, step=50), one_extended(100, 100000, MOST, step=50), one_extended(100, 2000, MOST, step=50),
     FULL, chained(records_of(chain(3))), chained(records_of(chain(3)), more=(part(0x0F, 100, 500), part(0x83, 700, 100))),
     logicals_at((10,), replace(EXTENDED, sectors=5010)), logicals_at((0,)), logicals_at((1,)), logicals_at((0, 0, 0)),
     logicals_at((10, 10, 10), replace(EXTENDED, sectors=100000), BIG, (1, 1, 1)),
@@ -108,7 +108,7 @@ def free_cases():
             for align in (1, 2048):
                 on_table("free", align=align, disk_size=disk_size)
     lend(FULL)
-    for handed in (24, 25):
+    for handed in (MOST, MOST + 1):
         for align in (0, 1):
             on_table("free", align=align, handed=handed)
     for x in seeded_tables():
@@ -138,9 +138,9 @@ def place_cases():
             for number in (1, 2, 5, 6) if runs else (1, 9):
                 on_table("most_for", number, align=align)
     lend(FULL)
-    for number in (0, 4, 27, 28, 29, BIG):
+    for number in (0, 4, HIGHEST - 1, HIGHEST, HIGHEST + 1, BIG):
         on_table("most_for", number, align=1)
-    for handed in (24, 25):
+    for handed in (MOST, MOST + 1):
         for align in (0, 1):
             on_table("most", align=align, handed=handed)
             on_table("most_for", 40, align=align, handed=handed)
@@ -158,13 +158,13 @@ def place_cases():
 
 def lent_cases():
     note("thirty lent runs, and a lent partition")
-    for x in TABLES[:12] + [FULL, one_extended(100, 100000, 24, step=50)]:
+    for x in TABLES[:12] + [FULL, one_extended(100, 100000, MOST, step=50)]:
         lend(x)
         for align in (2048, 1, 0):
             on_table("free_into", 7, 9, align=align)
     on_table("free_into", BIG, BIG, align=1)
     lend(FULL)
-    for handed in (24, 25):
+    for handed in (MOST, MOST + 1):
         on_table("free_into", 0, 1, align=1, handed=handed)
     lend(chained(records_of(chain(3))))
     for geometry in ((1023, 255, 63), (10, 2, 3), (1, 1, 1), (0, 0, 0), (65535, 255, 255), (866, 2, 3)):

@@ -24,7 +24,7 @@ def chained(n: int) -> bytes:
 
 
 # as many logical partitions as there can be, and one more
-DISKS = {"full": chained(24), "refused": chained(25)}
+DISKS = {"full": chained(m.LOGICALS), "refused": chained(m.LOGICALS + 1)}
 
 if __name__ == "__main__":
     x = DISKS[sys.argv[1]]

@@ -11,8 +11,9 @@ from typing import Dict, List, NamedTuple, Optional, Tuple
 
 LOGICALS = 24  # logical partitions of a table
 RECORDS = 64  # records of an extract
-RUNS = 30  # runs of a lent list
-STORES = 1032  # bytes of the lent output of a careful change
+RUNS = LOGICALS + 6  # runs of a lent list
+STORE = 4 + 512  # bytes of a store: its LBA and a record
+STORES = 2 * STORE  # bytes of the lent output of a careful change
 
 SECTOR_SIZES = (512, 1024, 2048, 4096)
 SIGNATURE = b"\x55\xaa"
@@ -356,7 +357,7 @@ class Table:
 
 
 def check_count(t: Table) -> None:
-    """A table handed in with a count over 24, tested first."""
+    """A table handed in with a count over LOGICALS, tested first."""
     if len(t.logicals) > LOGICALS:
         raise Refusal(6)
 

@@ -3,7 +3,7 @@ from dataclasses import replace
 
 import cases as c
 import model as m
-from cases import BIG, case, header_of, note, part
+from cases import BIG, MOST, case, header_of, note, part
 from disk_k import disk_k
 from model import CHS, EBR, Entry
 
@@ -213,7 +213,7 @@ def extended_cases():
 
 def first_cases():
     note("reading: the first EBR forgiven")
-    for n in (1, 2, 24):
+    for n in (1, 2, MOST):
         for at, text in ((510, "0000"), (510, "aa55"), (510, "55ab"), (446, "01"), (446, "ff"), (462, "01"), (462, "7f"),
                          (446, "80"), (462, "80")):
             read(one_wrong(n, 0, damage, at, text))
@@ -237,10 +237,10 @@ def first_cases():
 
 def later_cases():
     note("reading: chains of several lengths")
-    for n in (1, 2, 3, 5, 23, 24):
-        read(chained(records_of(chain(n))), n == 24)
+    for n in (1, 2, 3, 5, MOST - 1, MOST):
+        read(chained(records_of(chain(n))), n == MOST)
     note("reading: each refusal at the second and the 24th EBR")
-    for n, k in ((2, 1), (3, 1), (24, 1), (24, 23), (25, 23), (24, 22)):
+    for n, k in ((2, 1), (3, 1), (MOST, 1), (MOST, MOST - 1), (MOST + 1, MOST - 1), (MOST, MOST - 2)):
         for place in (D - 1, D, D + 1, X + BIG):
             read(one_wrong(n, k, past_end, place))
         for at, text in ((510, "0000"), (510, "55ab"), (446, "01"), (446, "7f"), (446, "81"), (446, "80"), (462, "ff"),
@@ -271,28 +271,28 @@ def later_cases():
 
 def last_cases():
     note("reading: the 25th EBR")
-    read(chained(records_of(chain(25))), True)
-    read(chained(records_of(chain(26))))
-    read(one_wrong(25, 24, damage, 510, "0000"))
+    read(chained(records_of(chain(MOST + 1))), True)
+    read(chained(records_of(chain(MOST + 2))))
+    read(one_wrong(MOST + 1, MOST, damage, 510, "0000"))
     for at, text in ((510, "55ab"), (446, "01"), (446, "80"), (462, "ff"), (462, "80"), (0, "77")):
-        read(one_wrong(25, 24, damage, at, text))
+        read(one_wrong(MOST + 1, MOST, damage, at, text))
     for place in (D - 1, D, X + BIG):
-        read(one_wrong(25, 24, past_end, place))
-    read(one_wrong(25, 24, put, partition={"starting_lba": BIG}))
-    read(one_wrong(25, 24, put, link={"starting_lba": 1}))
-    read(one_wrong(25, 24, put, link={"starting_lba": BIG}))
-    read(one_wrong(25, 24, put, partition={"sys": 0}))
-    read(one_wrong(25, 23, put, link={"starting_lba": 0}))
-    read(one_wrong(25, 23, put, link={"starting_lba": 0, "sys": 0, "boot": 0x80}))
-    read(one_wrong(25, 23, put, link={"sys": 0}))
-    records = records_of(chain(25))
-    del records[lies_at(24)]
+        read(one_wrong(MOST + 1, MOST, past_end, place))
+    read(one_wrong(MOST + 1, MOST, put, partition={"starting_lba": BIG}))
+    read(one_wrong(MOST + 1, MOST, put, link={"starting_lba": 1}))
+    read(one_wrong(MOST + 1, MOST, put, link={"starting_lba": BIG}))
+    read(one_wrong(MOST + 1, MOST, put, partition={"sys": 0}))
+    read(one_wrong(MOST + 1, MOST - 1, put, link={"starting_lba": 0}))
+    read(one_wrong(MOST + 1, MOST - 1, put, link={"starting_lba": 0, "sys": 0, "boot": 0x80}))
+    read(one_wrong(MOST + 1, MOST - 1, put, link={"sys": 0}))
+    records = records_of(chain(MOST + 1))
+    del records[lies_at(MOST)]
     read(chained(records))
-    read(chained(records_of(chain(25)), disk_size=lies_at(24) + 1))
-    read(chained(records_of(chain(24)), disk_size=lies_at(23) + 1))
-    records = records_of(chain(24))
-    del records[lies_at(23)]
-    read(chained(records, disk_size=lies_at(23)))
+    read(chained(records_of(chain(MOST + 1)), disk_size=lies_at(MOST) + 1))
+    read(chained(records_of(chain(MOST)), disk_size=lies_at(MOST - 1) + 1))
+    records = records_of(chain(MOST))
+    del records[lies_at(MOST - 1)]
+    read(chained(records, disk_size=lies_at(MOST - 1)))
 
 
 def link_cases():
@@ -312,11 +312,11 @@ def link_cases():
     for sectors in (0, 1, STEP, STEP + 1):
         read(chained(records_of(chain(3)), extended=replace(EXTENDED, sectors=sectors)))
     note("reading: a chain whose steps are 1")
-    for n in (2, 24, 25):
+    for n in (2, MOST, MOST + 1):
         read(chained(records_of(chain(n, step=1), step=1)))
     note("reading: records that reading does not look at, and absent ones")
     others = {lba: c.marked(lba) for lba in range(1, 39)}
-    read(chained({**records_of(chain(24)), **others}))
+    read(chained({**records_of(chain(MOST)), **others}))
     read(chained({**records_of(chain(2)), 1: c.marked(1), 4999: c.marked(2), 5001: c.marked(3), D - 1: c.marked(4)}))
     note("reading: sector sizes")
     for size in (512, 1024, 2048, 4096):
@@ -344,7 +344,8 @@ def wanted_cases():
     for disk_size in (4096, 4097):
         read(disk(disk_size, {0: zero}))
     note("wanted: the first absent record in the chain's order, one or two of them absent")
-    for n, several in ((3, ({0}, {1}, {2}, {0, 1}, {0, 2}, {1, 2})), (24, ({1, 22}, {22}, {23})), (26, ({23, 24}, {24}, {25}))):
+    for n, several in ((3, ({0}, {1}, {2}, {0, 1}, {0, 2}, {1, 2})), (MOST, ({1, MOST - 2}, {MOST - 2}, {MOST - 1})),
+                       (MOST + 2, ({MOST - 1, MOST}, {MOST}, {MOST + 1}))):
         for gone in several:
             read(chained({lba: record for lba, record in records_of(chain(n)).items() if lba not in map(lies_at, gone)}))
     note("wanted: an absent record behind an EBR at which reading ends")

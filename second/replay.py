@@ -118,7 +118,7 @@ def sound_disk(rng):
         extended = []
     else:
         start = rng.choice((1, 2, 63, 2048, rng.randrange(1, 10 ** 5), rng.randrange(1, BIG - 10 ** 6)))
-        n = rng.choice((0, 1, 2, 3, 23, 24, rng.randrange(25), rng.randrange(10), rng.randrange(10)))
+        n = rng.choice((0, 1, 2, 3, m.LOGICALS - 1, m.LOGICALS, rng.randrange(m.LOGICALS + 1), rng.randrange(10), rng.randrange(10)))
         places, least = chain_places(rng, start, n)
         end = least + rng.choice((0, 1, rng.randrange(100), rng.randrange(50000), rng.randrange(10 ** 6),
                                   rng.randrange(BIG - least)))
@@ -217,7 +217,7 @@ def data_partitions(t):
 
 
 def decoded(out, n):
-    return [(m.little(out[at:at + 4]), bytes(out[at + 4:at + 516])) for at in range(0, 516 * n, 516)]
+    return [(m.little(out[at:at + 4]), bytes(out[at + 4:at + m.STORE])) for at in range(0, m.STORE * n, m.STORE)]
 
 
 def after(disk, stores):
@@ -227,7 +227,7 @@ def after(disk, stores):
 def laid(x, stores):
     """The extract with the stores laid over it; none where a 65th record is refused."""
     for lba, record in stores:
-        out = bytearray(len(x) + 516)
+        out = bytearray(len(x) + m.STORE)
         try:
             x = bytes(out[:m.lay_over(x, lba, record, out)])
         except Refusal as r:
@@ -308,7 +308,7 @@ def in_first_place(t):
 def checked(x, t, made, wanted, records, out):
     """An accepted change: made is the second program's answer, or a planted one."""
     stores = decoded(out, len(made.stores))
-    hold("other lent bytes stay", bytes(out[516 * len(stores):]) == LENT * (len(out) - 516 * len(stores)))
+    hold("other lent bytes stay", bytes(out[m.STORE * len(stores):]) == LENT * (len(out) - m.STORE * len(stores)))
     replayed(x, t, wanted, stores)
     hold("each byte of the stores", stores == records)
     hold("the answered table", contents_of(made.table) == contents_of(wanted))
@@ -331,29 +331,29 @@ def removed(x, t, number, made, out):
 
 def try_push(rng, x, t, changed=lambda made, out: made):
     request = any_push(rng, t)
-    room = rng.choice((1032, 1032, 1032, 1040, 1031, 516))
+    room = rng.choice((m.STORES, m.STORES, m.STORES, m.STORES + 8, m.STORES - 1, m.STORE))
     out = bytearray(LENT * room)
     try:
         made = m.careful_push(x, *request, out)
     except Refusal:
         hold("lent bytes stay on a refusal", out == LENT * room)
-        hold("refused only as listed", room < 1032 or not push_holds(t, *request))
+        hold("refused only as listed", room < m.STORES or not push_holds(t, *request))
         return False
-    hold("accepted only if no refusal applies", room >= 1032 and push_holds(t, *request))
+    hold("accepted only if no refusal applies", room >= m.STORES and push_holds(t, *request))
     pushed(x, t, request, changed(made, out), out)
     return True
 
 
 def try_removal(rng, x, t, number, changed=lambda made, out: made):
-    room = rng.choice((1032, 1032, 1032, 1040, 1031))
+    room = rng.choice((m.STORES, m.STORES, m.STORES, m.STORES + 8, m.STORES - 1))
     out = bytearray(LENT * room)
     try:
         made = m.careful_removal(x, number, out)
     except Refusal:
         hold("lent bytes stay on a refusal", out == LENT * room)
-        hold("refused only as listed", room < 1032 or not 5 <= number < 5 + len(t.logicals))
+        hold("refused only as listed", room < m.STORES or not 5 <= number < 5 + len(t.logicals))
         return False
-    hold("accepted only if no refusal applies", room >= 1032 and 5 <= number < 5 + len(t.logicals))
+    hold("accepted only if no refusal applies", room >= m.STORES and 5 <= number < 5 + len(t.logicals))
     removed(x, t, number, changed(made, out), out)
     return True
 
@@ -388,26 +388,26 @@ def altered(out, at, new):
 def exchanged(made, out):
     """The link stored before its new EBR."""
     if len(made.stores) == 2:
-        out[:1032] = out[516:1032] + out[:516]
+        out[:m.STORES] = out[m.STORE:m.STORES] + out[:m.STORE]
     return made
 
 
 def repeated(made, out):
     """The first store repeated as the second."""
     if len(made.stores) == 2:
-        out[516:1032] = out[:516]
+        out[m.STORE:m.STORES] = out[:m.STORE]
     return made
 
 
 def one_dropped(made, out):
     """A store fewer."""
-    altered(out, 516 * (len(made.stores) - 1), LENT * 516)
+    altered(out, m.STORE * (len(made.stores) - 1), LENT * m.STORE)
     return made._replace(stores=made.stores[:-1])
 
 
 def other_type(made, out):
     """The link's type wrong: it reads the same, and the bytes tell."""
-    at = 516 * (len(made.stores) - 1) + 4 + 462
+    at = m.STORE * (len(made.stores) - 1) + 4 + 462
     if any(out[at:at + 16]):
         out[at + 4] ^= 0x0A
     return made
@@ -421,7 +421,7 @@ def partition_type(made, out):
 
 def code_lost(made, out):
     """The code of the record that is rewritten wiped."""
-    at = 516 * (len(made.stores) - 1) + 4
+    at = m.STORE * (len(made.stores) - 1) + 4
     altered(out, at, bytes(446))
     return made
 
@@ -436,15 +436,15 @@ def on_data(made, out):
     """A second store on the first sector of a data partition: it reads the same."""
     if len(made.stores) == 1 and data_partitions(made.table):
         lba = data_partitions(made.table)[-1].starting_lba
-        altered(out, 516, m.four(lba) + bytes(512))
+        altered(out, m.STORE, m.four(lba) + bytes(512))
         made = made._replace(stores=made.stores * 2)
     return made
 
 
 def byte_behind(made, out):
     """A lent byte behind the stores changed."""
-    if len(out) > 516 * len(made.stores):
-        out[516 * len(made.stores)] = 0
+    if len(out) > m.STORE * len(made.stores):
+        out[m.STORE * len(made.stores)] = 0
     return made
 
 

@@ -101,8 +101,8 @@ def free_numbers():
     same(m.free_runs(t), [Run(1, 49), Run(101, 48)])
     refused(7, m.free_runs, table(0, 1))
     refused(7, m.free_runs, table(100, 0))
-    refused(19, m.free_runs_into, table(100, 1), 29)
-    refused(7, m.free_runs_into, table(0, 1), 29)
+    refused(19, m.free_runs_into, table(100, 1), m.RUNS - 1)
+    refused(7, m.free_runs_into, table(0, 1), m.RUNS - 1)
     # the examples of the crate's own pages
     same(m.free_runs(table(100, 1, part(0x83, 6, 89))), [Run(1, 5), Run(95, 5)])
     same(m.find_first_place(table(100, 1, part(0x83, 6, 94)), 5), 1)
@@ -124,7 +124,7 @@ def disk_k_numbers():
     same(m.broken_rules(t), [])
     same(m.wanted(x), None)
 
-    def push(start, sectors, lent=1032):
+    def push(start, sectors, lent=m.STORES):
         return m.careful_push(x, 2048, Geometry(0, 0, 0), 0x83, start, sectors, bytearray(lent))
 
     for start in (8192, 8191):
@@ -139,7 +139,7 @@ def disk_k_numbers():
     out = bytearray(b"\xee" * 1040)
     stores = m.careful_push(x, 2048, Geometry(0, 0, 0), 0x83, 8192, 4096, out).stores
     same(bytes(out), b"".join(m.four(lba) + r for lba, r in stores) + b"\xee" * 8)
-    out = bytearray(b"\xee" * 1032)
+    out = bytearray(b"\xee" * m.STORES)
     same(m.careful_removal(x, 5, out).stores, [(4096, bytes(512))])
     same(bytes(out), m.four(4096) + bytes(512) + b"\xee" * 516)
     refused(17, m.careful_removal, x, 4, bytearray(0))
@@ -154,7 +154,7 @@ def disk_k_numbers():
 def extract_rules():
     x = disk_k()
     same(answer(m.extract_disk, x)[0], "done")
-    for at, value in ((0, 0), (0, 256), (0, 513), (0, 8192), (8, 65), (8, 1), (12, 25), (16, 33), (20, 1055),
+    for at, value in ((0, 0), (0, 256), (0, 513), (0, 8192), (8, m.RECORDS + 1), (8, 1), (12, 25), (16, 33), (20, 1055),
                       (4, 4096), (4, 0), (24, 4096), (28, 0), (28, 20480)):
         refused(1, m.extract_disk, x[:at] + m.four(value) + x[at + 4:])
     refused(1, m.extract_disk, x + b"\0")
@@ -166,11 +166,11 @@ def extract_rules():
     same(m.lookup(x, 1), b"")
     same(m.lookup(x, 20480), b"")
     same(m.lookup(x, 4096), x[544:])
-    full = extract(1000, {i: bytes(512) for i in range(64)})
-    refused(22, m.lay_over, full, 64, bytes(512), bytearray(0))
+    full = extract(1000, {i: bytes(512) for i in range(m.RECORDS)})
+    refused(22, m.lay_over, full, m.RECORDS, bytes(512), bytearray(0))
     refused(2, m.lay_over, full, 1000, bytes(512), bytearray(0))
     refused(1, m.lay_over, full, 1000, bytes(511), bytearray(0))
-    refused(19, m.lay_over, full, 63, bytes(512), bytearray(33047))
+    refused(19, m.lay_over, full, m.RECORDS - 1, bytes(512), bytearray(24 + m.STORE * m.RECORDS - 1))
     out = bytearray(b"\x11" * 1600)
     same(m.lay_over(x, 9, b"\x07" * 512, out), 1572)
     same(m.lookup(out[:1572], 9), b"\x07" * 512)
@@ -188,13 +188,13 @@ def chain_rules():
     def links(n):
         return [(1000 + 10 * i, part(0x83, 2, 3), part(5, 10 * (i + 1) if i + 1 < n else 0, 10)) for i in range(n)]
 
-    same(len(m.read_table(chain(links(24))).logicals), 24)
-    refused(6, m.read_table, chain(links(25)))
-    bad = links(25)
-    bad[24] = (1240, part(0x83, 2, 3, boot=1), m.NO_ENTRY)
+    same(len(m.read_table(chain(links(m.LOGICALS))).logicals), m.LOGICALS)
+    refused(6, m.read_table, chain(links(m.LOGICALS + 1)))
+    bad = links(m.LOGICALS + 1)
+    bad[m.LOGICALS] = (1240, part(0x83, 2, 3, boot=1), m.NO_ENTRY)
     refused(4, m.read_table, chain(bad))
-    same(m.wanted(chain(links(25)[:24])), 1240)
-    same(m.wanted(chain(links(26)[:25])), None)
+    same(m.wanted(chain(links(m.LOGICALS + 1)[:m.LOGICALS])), 1240)
+    same(m.wanted(chain(links(m.LOGICALS + 2)[:m.LOGICALS + 1])), None)
     refused(3, m.read_table, chain(links(3)[:2]))
     same(m.read_table(chain(links(3)[1:])).logicals, ())
     same(m.wanted(chain([])), 1000)
@@ -230,7 +230,7 @@ def pushes():
     same(first.table.logicals[0].partition, part(0x83, 6144, 98304))
     same(first.table.logicals[0].ebr_sectors, None)
     same(m.push(first.table, 0x83, 8192, 4096).number, 6)
-    crowded = replace(first.table, logicals=first.table.logicals * 24)
+    crowded = replace(first.table, logicals=first.table.logicals * m.LOGICALS)
     refused(6, m.push, crowded, 0x83, 8192, 4096)
     refused(12, m.push, crowded, 0x83, 8192, 99999)
     refused(6, m.push, replace(crowded, logicals=crowded.logicals + crowded.logicals[:1]), 0x83, 0, 0)
@@ -290,7 +290,7 @@ def writing():
     shaped = replace(two, logicals=(t.logicals[0], linked), cylinders=1023, heads=255, sectors=63)
     same(m.write_table(shaped, blank, bytearray(9999)).table.logicals[1].ebr_last_chs,
          m.from_lba_exact(12287, 1023, 255, 63))
-    crowded = extract(20480, {i + 1: bytes(512) for i in range(63)})
+    crowded = extract(20480, {i + 1: bytes(512) for i in range(m.RECORDS - 1)})
     refused(22, m.write_table, t, crowded, bytearray(0))
     loose = replace(t, header=header())
     same(m.write_table(loose, blank, bytearray(540)), m.Written(loose, 540))
@@ -336,7 +336,7 @@ def soundness():
     with_second("none", ebr_sectors=12288)
     with_second("link covers", ebr_sectors=4095)
     with_second("logical end", absolute_ebr_lba=8191, partition=part(0x83, 8192, 1))
-    refused(6, m.broken_rules, replace(t, logicals=(first,) * 25))
+    refused(6, m.broken_rules, replace(t, logicals=(first,) * (m.LOGICALS + 1)))
 
 
 def any_disk(rng):
@@ -373,9 +373,9 @@ def careful_disks():
             align = rng.choice((1, 1, 2, 3))
             geometry = rng.choice((Geometry(0, 0, 0), Geometry(20, 2, 4)))
             change = answer(m.careful_push, x, align, geometry, 0x83, rng.randrange(0, 90), rng.randrange(0, 30),
-                            bytearray(1032))
+                            bytearray(m.STORES))
         else:
-            change = answer(m.careful_removal, x, rng.randrange(4, 10), bytearray(1032))
+            change = answer(m.careful_removal, x, rng.randrange(4, 10), bytearray(m.STORES))
         if change[0] == "refused":
             continue
         accepted += 1

@@ -3,7 +3,7 @@ from dataclasses import replace
 
 import cases as c
 import model as m
-from cases import BIG, case, note, part
+from cases import BIG, HIGHEST, MOST, case, note, part
 from disk_k import disk_k
 from read_cases import EXTENDED, chain, chained, disk, records_of, with_header
 
@@ -32,7 +32,7 @@ def one_extended(start, sectors, n=0, disk_size=BIG, step=1):
 
 
 NO_EXTENDED = with_header(c.header_of(part(0x83, 2048, 2048)))
-FULL = chained(records_of(chain(24)))
+FULL = chained(records_of(chain(MOST)))
 
 # ---------------------------------------------------------------- lookup and small changes
 
@@ -42,9 +42,9 @@ def lookup_cases():
     for x in (disk_k(), NO_EXTENDED, chained(records_of(chain(3))), FULL):
         lend(x)
         on_table("len")
-        for number in (0, 1, 2, 4, 5, 6, 7, 8, 27, 28, 29, 30, 255, 256, BIG, BIG + 2):
+        for number in (0, 1, 2, 4, 5, 6, 7, 8, HIGHEST - 1, HIGHEST, HIGHEST + 1, HIGHEST + 2, 255, 256, BIG, BIG + 2):
             on_table("get", number)
-    for handed in (24, 25, 26, 100):
+    for handed in (MOST, MOST + 1, MOST + 2, 100):
         on_table("len", handed=handed)
         on_table("get", 1, handed=handed)
         on_table("get", 0, handed=handed)
@@ -102,7 +102,7 @@ def lookup_cases():
     note("removal")
     for x in (disk_k(), NO_EXTENDED, chained(records_of(chain(3))), FULL):
         lend(x)
-        for number in (0, 1, 4, 5, 6, 7, 8, 28, 29, 255, BIG):
+        for number in (0, 1, 4, 5, 6, 7, 8, HIGHEST, HIGHEST + 1, 255, BIG):
             on_table("remove", number, align=7, geometry=(1, 2, 3))
     lend(FULL)
     for sector in (0, 5000, 5010, 5089, 5090, 7310, 7366, 7367, 8999):
@@ -120,8 +120,8 @@ def from_cases():
         for second in (disk(0, {}), disk(BIG, {}, 4096), disk_k(), disk_k()[:1055], b"", disk(5, {4: c.marked(9)}, 2048)):
             lend(first, second)
             on_table("update_from", len(second), align=9, geometry=(3, 2, 1))
-            on_table("update_from", len(second), handed=24)
-            on_table("update_from", len(second), handed=25)
+            on_table("update_from", len(second), handed=MOST)
+            on_table("update_from", len(second), handed=MOST + 1)
 
 
 def chs_cases():
@@ -167,7 +167,8 @@ def push_cases():
         push(8192, 4096, sys)
 
     note("push: no extended entry, a count over 24, and a 25th")
-    for x, handed in ((NO_EXTENDED, 0), (NO_EXTENDED, 25), (NO_EXTENDED, 24), (disk_k(), 25), (disk_k(), 24), (disk_k(), 23)):
+    for x, handed in ((NO_EXTENDED, 0), (NO_EXTENDED, MOST + 1), (NO_EXTENDED, MOST),
+                      (disk_k(), MOST + 1), (disk_k(), MOST), (disk_k(), MOST - 1)):
         lend(x)
         for start, sectors, align in ((8192, 4096, 2048), (0, 4096, 2048), (8192, 4096, 0), (0, 0, 0), (2048, 4096, 2048),
                                       (16385, 4096, 2048), (16384, 4097, 2048)):
@@ -175,7 +176,7 @@ def push_cases():
     lend(FULL)
     for geometry in (UNSET, (1023, 255, 63), (10, 2, 3)):
         push(8000, 200, align=100, geometry=geometry, word="push_all")
-    lend(chained(records_of(chain(23))))
+    lend(chained(records_of(chain(MOST - 1))))
     push(8000, 200, align=100, word="push_all")
 
     note("push: both sides of every comparison, empty and other chains")

@@ -3,7 +3,7 @@ from dataclasses import replace
 
 import cases as c
 import model as m
-from cases import BIG, case, note, part
+from cases import BIG, HIGHEST, MOST, RECORDS, case, note, part
 from disk_k import disk_k
 from model import CHS
 from read_cases import D, EXTENDED, STEP, X, chain, chained, disk, records_of, with_header
@@ -67,7 +67,7 @@ NO_EXTENDED = with_header(c.header_of(part(0x83, 2048, 2048), part(0x07, 9, 9, 0
 
 def count_cases():
     note("writing: 0, 1, 2, 3, 23 and 24 logical partitions, over an empty extract and read back")
-    for n in (0, 1, 2, 3, 23, 24):
+    for n in (0, 1, 2, 3, MOST - 1, MOST):
         lend(source(n), EMPTY)
         both()
         write()
@@ -91,7 +91,7 @@ def count_cases():
     note("writing: no extended entry, without and with logical partitions")
     lend(NO_EXTENDED, others(2))
     both(room=2000)
-    for handed in (1, 24):
+    for handed in (1, MOST):
         write(handed=handed, room=2000)
         write(handed=handed, geometry=WIDE, room=2000)
     write((5, FLAG, 1), (5, PLACE, BIG), handed=2, room=2000)
@@ -121,11 +121,11 @@ def place_cases():
     write((1, START, 4000))
     write((1, START, 5500))
     note("writing: X = 0, the EBR over record 0")
-    for n in (1, 2, 24):
+    for n in (1, 2, MOST):
         lend(source(n), others(3))
-        write((1, START, 0), room=length(27))
+        write((1, START, 0), room=length(MOST + 3))
         back(n + 3)
-        write((1, START, 0), geometry=WIDE, room=length(27))
+        write((1, START, 0), geometry=WIDE, room=length(MOST + 3))
         write((1, START, 0), room=length(n + 3) - 1)
         write((1, START, 0), room=length(n + 3))
     note("writing: equal EBR places, the later one wins")
@@ -134,8 +134,8 @@ def place_cases():
                   ((7, PLACE, 0),), ((6, PLACE, 4),), ((7, PLACE, 7),), ((6, PLACE, 1), (7, PLACE, 4))):
         write(*edits)
         write(*edits, geometry=WIDE)
-    lend(source(24), others(40))
-    write(*((k, PLACE, X) for k in (6, 10, 27, 28)), room=40000)
+    lend(source(MOST), others(RECORDS - MOST))
+    write(*((k, PLACE, X) for k in (6, 10, HIGHEST - 1, HIGHEST)), room=40000)
     note("writing: an EBR before X has link start 0, a partition before its EBR start 0")
     lend(source(3), EMPTY)
     for edits in (((6, PLACE, X - 1),), ((7, PLACE, X - 1),), ((6, PLACE, X + 1),), ((6, START, 5099),), ((6, START, 5100),),
@@ -189,13 +189,14 @@ def geometry_cases():
     for geometry in ((1, 1, 1), (10, 2, 3), (851, 2, 3), (850, 2, 3), (868, 2, 3), (880, 2, 3), (885, 2, 3), (1, 79, 63), (1, 82, 63),
                      (1022, 1, 5), (1023, 1, 5), (1023, 1, 6)):
         write(geometry=geometry, room=3000)
-    lend(source(24), others(1))
-    for edits in (((28, SECTORS, BIG),), ((28, LINK, 0), (28, PLACE, 0)), ((28, START, 16450560),), ((27, SECTORS, BIG), (28, START, 16450560)),
-                  ((27, START, 16450560), (28, SECTORS, BIG)), ((5, START, 16450560), (28, SECTORS, BIG))):
+    lend(source(MOST), others(1))
+    for edits in (((HIGHEST, SECTORS, BIG),), ((HIGHEST, LINK, 0), (HIGHEST, PLACE, 0)), ((HIGHEST, START, 16450560),),
+                  ((HIGHEST - 1, SECTORS, BIG), (HIGHEST, START, 16450560)),
+                  ((HIGHEST - 1, START, 16450560), (HIGHEST, SECTORS, BIG)), ((5, START, 16450560), (HIGHEST, SECTORS, BIG))):
         write(*edits, geometry=WIDE, room=14000)
         write(*edits, room=14000)
     note("writing: missing link fields, with and without a complete geometry")
-    for n, numbers in ((1, (5,)), (3, (5, 6, 7)), (24, (5, 6, 27, 28))):
+    for n, numbers in ((1, (5,)), (3, (5, 6, 7)), (MOST, (5, 6, HIGHEST - 1, HIGHEST))):
         lend(source(n), others(1))
         for k in numbers:
             for edits in (((k, NO_LINK, 0),), ((k, NO_LAST, 0),), ((k, NO_LINK, 0), (k, NO_LAST, 0))):
@@ -214,34 +215,38 @@ def geometry_cases():
 
 def room_cases():
     note("writing: buffers short by one, full, and longer")
-    for n, over, records in ((0, EMPTY, 1), (1, EMPTY, 2), (2, EMPTY, 3), (24, EMPTY, 25), (2, others(5), 8), (2, source(3), 4),
-                             (3, source(2), 4), (0, others(63), 64), (1, others(62), 64), (24, others(39), 64), (24, source(24), 25)):
+    for n, over, records in ((0, EMPTY, 1), (1, EMPTY, 2), (2, EMPTY, 3), (MOST, EMPTY, MOST + 1), (2, others(5), 8), (2, source(3), 4),
+                             (3, source(2), 4), (0, others(RECORDS - 1), RECORDS), (1, others(RECORDS - 2), RECORDS),
+                             (MOST, others(RECORDS - 1 - MOST), RECORDS), (MOST, source(MOST), MOST + 1)):
         lend(source(n), over)
-        for room in (0, 1, 23, 24, length(records) - 516, length(records) - 1, length(records), length(records) + 1, length(records) + 700):
+        for room in (0, 1, 23, 24, length(records) - m.STORE, length(records) - 1, length(records), length(records) + 1, length(records) + 700):
             write(room=room, fill=room % 251 + 1)
         back(records)
-    for over, records in ((EMPTY, 1), (others(5), 6), (source(3), 4), (others(63), 64)):
+    for over, records in ((EMPTY, 1), (others(5), 6), (source(3), 4), (others(RECORDS - 1), RECORDS)):
         lend(source(2), over)
         for room in (0, 23, length(records) - 1, length(records), length(records) + 9):
             write(word="write_header", room=room)
     note("writing: a 65th record")
-    for n, over in ((0, others(64)), (0, others(64, 0)), (0, others(63)), (1, others(63)), (1, others(62)), (1, others(63, 0)),
-                    (1, others(64, 0)), (24, others(40)), (24, others(40, 0)), (24, others(39)), (24, others(64, 0)), (24, others(64)),
-                    (1, others(64, 0, 50, 20000)), (1, disk(D, {**{k: c.marked(k) for k in range(63)}, X: c.marked(9)})),
-                    (2, disk(D, {**{k: c.marked(k) for k in range(63)}, X: c.marked(9)})),
-                    (24, disk(D, {**{k: c.marked(k) for k in range(40)}, **{X + STEP * k: c.marked(k) for k in range(24)}})),
-                    (24, disk(D, {**{k: c.marked(k) for k in range(41)}, **{X + STEP * k: c.marked(k) for k in range(23)}}))):
+    for n, over in ((0, others(RECORDS)), (0, others(RECORDS, 0)), (0, others(RECORDS - 1)), (1, others(RECORDS - 1)),
+                    (1, others(RECORDS - 2)), (1, others(RECORDS - 1, 0)),
+                    (1, others(RECORDS, 0)), (MOST, others(RECORDS - MOST)), (MOST, others(RECORDS - MOST, 0)),
+                    (MOST, others(RECORDS - 1 - MOST)), (MOST, others(RECORDS, 0)), (MOST, others(RECORDS)),
+                    (1, others(RECORDS, 0, 50, 20000)), (1, disk(D, {**{k: c.marked(k) for k in range(RECORDS - 1)}, X: c.marked(9)})),
+                    (2, disk(D, {**{k: c.marked(k) for k in range(RECORDS - 1)}, X: c.marked(9)})),
+                    (MOST, disk(D, {**{k: c.marked(k) for k in range(RECORDS - MOST)}, **{X + STEP * k: c.marked(k) for k in range(MOST)}})),
+                    (MOST, disk(D, {**{k: c.marked(k) for k in range(RECORDS + 1 - MOST)},
+                                   **{X + STEP * k: c.marked(k) for k in range(MOST - 1)}}))):
         lend(source(n), over)
-        both(room=length(64))
-        both(room=length(64) - 1)
+        both(room=length(RECORDS))
+        both(room=length(RECORDS) - 1)
         write(room=0)
-    lend(source(3), others(61))
-    write(room=length(64))
-    write((6, PLACE, X), room=length(64))
-    write((6, PLACE, X), room=length(64) - 1)
-    write((6, PLACE, 0), room=length(64))
-    write((7, PLACE, 1), room=length(64))
-    write((6, PLACE, 1), (7, PLACE, 4), room=length(64))
+    lend(source(3), others(RECORDS - 3))
+    write(room=length(RECORDS))
+    write((6, PLACE, X), room=length(RECORDS))
+    write((6, PLACE, X), room=length(RECORDS) - 1)
+    write((6, PLACE, 0), room=length(RECORDS))
+    write((7, PLACE, 1), room=length(RECORDS))
+    write((6, PLACE, 1), (7, PLACE, 4), room=length(RECORDS))
 
 
 # ---------------------------------------------------------------- refusals
@@ -249,14 +254,14 @@ def room_cases():
 
 def refusal_cases():
     note("writing: each refusal alone, then with the next ones of document 01's order")
-    full = others(64)
+    full = others(RECORDS)
     # What gives each refusal: edits, and what else is given; the old extract and the room decide the rest.
     flagged = (1, FLAG, 0x81)
     none = disk(0, {})
-    for n in (2, 24):
+    for n in (2, MOST):
         lend(source(n), others(2))
         both(room=20000)
-        for handed in (25, 26, 1000):
+        for handed in (MOST + 1, MOST + 2, 1000):
             both(handed=handed, room=20000)
             write(SIGN, flagged, handed=handed, geometry=(1, 1, 1), room=0)
         for sign in (0xAA54, 0x0055, 0x55AA, 0xAB55, 0):
@@ -274,7 +279,7 @@ def refusal_cases():
             lend(source(n), over)
             both(room=20000)
             both(SIGN, flagged, room=0)
-            both(handed=25, room=20000)
+            both(handed=MOST + 1, room=20000)
         lend(source(n), none)
         both(room=20000)
         both(SIGN, room=20000)
@@ -283,7 +288,7 @@ def refusal_cases():
         write((5, FLAG, 1), room=20000)
         write((1, TYPE, 0x83), room=20000)
     note("writing: per logical partition 4, 2, 18, at the first, the second and the last")
-    for n in (2, 24):
+    for n in (2, MOST):
         for over, room in ((others(2), 20000), (others(2), 0), (full, 40000)):
             lend(source(n), over)
             for k in (5, 6, n + 4):
@@ -328,7 +333,7 @@ def removed_cases():
     lend(K, disk(20480, {}))
     write(handed=0, room=1100)
     back(1)
-    for n in (2, 3, 24):
+    for n in (2, 3, MOST):
         lend(source(n), source(n))
         for handed in (n - 1, 1, 0):
             write(handed=handed)

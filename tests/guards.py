@@ -422,7 +422,7 @@ def rebuilt(folder, path, listing):
     (copy / "tools").mkdir()
     rt = copy / "tools" / "rt"
     rt.write_text(f'#!/bin/sh\nset -e\ncase $1 in doc) exec "{shutil.which("rt") or "false"}" doc ;; esac\necho "$@" >>"{copy}/asked"\n'
-                  'for n in base chs words; do echo "rt: $n proved (1 s)"; echo more; done\n'
+                  'for n in base record_chs station_disk; do echo "rt: $n proved (1 s)"; echo more; done\n'
                   f'mkdir -p target/bin && cp "{PROGRAM}" target/bin/station\n')
     rt.chmod(0o755)
     env = dict(os.environ, PATH=f"{copy}/tools:" + os.environ["PATH"])
@@ -431,7 +431,7 @@ def rebuilt(folder, path, listing):
     told = [run("--help").stdout, run("push", "-h").stdout, run("--version").stdout]
     if asked() or told != [station(*args)[1].encode() for args in (("--help",), ("push", "-h"), ("--version",))]:
         fail("help needs no build", told)
-    edit = next((copy / "crates/words").rglob("*.antt")).relative_to(copy)
+    edit = next((copy / "crates/station_disk").rglob("*.antt")).relative_to(copy)
     for want, touched in ((1, None), (1, None), (2, "crates/base/src/lib.rt"), (2, "tests/run"), (3, edit), (4, "crates.txt")):
         if touched:
             then = time.time() + 5 * want

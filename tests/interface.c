@@ -5,7 +5,7 @@
 #include "crumbvessel.h"
 
 _Static_assert(CV_CODE + CV_HEADER == CV_LOGICAL(0) && CV_EBR_CODE + 446 == CV_SLOT, "the header, then slots");
-_Static_assert(CV_LOGICAL(24) == CV_TAG(0) && CV_TAG(24) == CV_BLOCK, "24 slots, then 24 tags");
+_Static_assert(CV_LOGICAL(CV_LOGICALS) == CV_TAG(0) && CV_TAG(CV_LOGICALS) == CV_BLOCK, "the slots, then their tags");
 _Static_assert(CV_LONE_TAG == CV_SLOT && CV_LONE_SLOT == CV_SLOT + 1, "a slot, then its tag");
 
 static int failed, tried;

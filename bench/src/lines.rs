@@ -3,17 +3,14 @@
 use mbrman::{Error, LogicalPartition, MBRHeader, MBRPartitionEntry, CHS, MBR};
 
 use crate::disk::Disk;
-use crate::ours::{self, BLOCK, STORES};
+use crate::ours::{self, BLOCK, RUNS, SLOT, SLOTS, STORES, TAGS};
 
 const ALIGN: u32 = 2048;
 /// The extended partition's start.
 const X: u32 = 2 * ALIGN;
 const GEOMETRY: (u16, u8, u8) = (1023, 255, 63);
-/// In a block: the count, the first slot, a slot's bytes, the first tag.
+/// In a block: the count.
 const COUNT: usize = 12;
-const LOGICAL: usize = 540;
-const SLOT: usize = 480;
-const TAGS: usize = 12060;
 
 pub struct Line {
     pub operation: &'static str,
@@ -159,7 +156,7 @@ fn free(n: u32, sound: bool) -> Line {
         }
     }
     let b = block(&t);
-    let mut out = vec![0; 240];
+    let mut out = vec![0; RUNS];
     Line {
         operation: "find_free_sectors",
         input: input(n, sound),
@@ -197,15 +194,15 @@ fn push(n: u32, sound: bool) -> Line {
 fn remove(n: u32) -> Line {
     let mut t = table(n);
     let mut b = block(&t);
-    let (first, tag) = (b[LOGICAL..LOGICAL + SLOT].to_vec(), b[TAGS]);
-    let (last, last_tag) = (LOGICAL + SLOT * (n as usize - 1), TAGS + n as usize - 1);
+    let (first, tag) = (b[SLOTS..SLOTS + SLOT].to_vec(), b[TAGS]);
+    let (last, last_tag) = (SLOTS + SLOT * (n as usize - 1), TAGS + n as usize - 1);
     Line {
         operation: "remove",
         input: input(n, true),
         ours: Box::new(move || {
             let answer = ours::remove(&mut b, 5);
-            b.copy_within(LOGICAL..last, LOGICAL + SLOT);
-            b[LOGICAL..LOGICAL + SLOT].copy_from_slice(&first);
+            b.copy_within(SLOTS..last, SLOTS + SLOT);
+            b[SLOTS..SLOTS + SLOT].copy_from_slice(&first);
             b.copy_within(TAGS..last_tag, TAGS + 1);
             b[TAGS] = tag;
             b[COUNT..COUNT + 4].copy_from_slice(&n.to_le_bytes());
@@ -227,7 +224,7 @@ fn write(n: u32, sound: bool) -> Line {
     if !sound {
         let last = t.logical_partitions.last_mut().map_or(&mut t.header.partition_2, |l| &mut l.partition);
         last.boot = 0x7f;
-        b[if n == 0 { 466 + 18 } else { LOGICAL + SLOT * (n as usize - 1) }] = 0x7f;
+        b[if n == 0 { 466 + 18 } else { SLOTS + SLOT * (n as usize - 1) }] = 0x7f;
     }
     let mut disk = disk_of(&x);
     let mut out = vec![0; x.len()];

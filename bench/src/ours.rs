@@ -2,8 +2,14 @@
 
 use crate::c::*;
 
-pub const BLOCK: usize = 12084;
-pub const STORES: usize = 1032;
+pub const LOGICALS: usize = 24;
+pub const HEADER: usize = 446 + 4 * 18 + 2;
+pub const SLOT: usize = 34 + 446;
+pub const SLOTS: usize = 20 + HEADER;
+pub const TAGS: usize = SLOTS + SLOT * LOGICALS;
+pub const BLOCK: usize = TAGS + LOGICALS;
+pub const RUNS: usize = 8 * (LOGICALS + 6);
+pub const STORES: usize = 2 * (4 + 512);
 
 pub fn read(x: &[u8], out: &mut [u8]) -> u64 {
     u64::from(unsafe { cv_read(x.as_ptr(), x.len(), out.as_mut_ptr(), out.len()) }) << 32

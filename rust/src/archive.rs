@@ -5,18 +5,26 @@ use crate::c;
 use crate::chs::CHS;
 use crate::error::{Error, Result};
 
-pub const BLOCK: usize = 12084;
-pub const HEADER: usize = 520;
-pub const SLOT: usize = 480;
-/// Where the 24 tags of a block begin.
-pub const TAGS: usize = 12060;
+/// The most logical partitions of a table.
+pub const LOGICALS: usize = 24;
+/// The most records of an extract.
+pub const RECORDS: usize = 64;
+/// The bytes of an entry in a block.
+const ENTRY: usize = 18;
+pub const HEADER: usize = 446 + 4 * ENTRY + 2;
+pub const SLOT: usize = ENTRY + 16 + 446;
+/// Where the slots of a block begin, and where its tags do.
+const SLOTS: usize = 20 + HEADER;
+pub const TAGS: usize = SLOTS + SLOT * LOGICALS;
+pub const BLOCK: usize = TAGS + LOGICALS;
 /// A slot and its tag.
 pub const LONE_SLOT: usize = SLOT + 1;
-pub const STORE: usize = 516;
-const RUNS: usize = 240;
-const LISTING: usize = 2048;
-/// An extract of 64 records.
-const EXTRACT: usize = 24 + 64 * STORE;
+pub const STORE: usize = 4 + 512;
+/// The bytes of the most runs.
+const RUNS: usize = 8 * (LOGICALS + 6);
+const LISTING: usize = 64 * (LOGICALS + 8);
+/// The largest extract.
+const EXTRACT: usize = 24 + RECORDS * STORE;
 const NOTHING: u64 = 255;
 
 pub type Block = [u8; BLOCK];

@@ -108,7 +108,7 @@ impl Takes<'_> {
     }
 }
 
-/// The table's block. Of more than 24 logical partitions it has the count, by which the archive refuses it.
+/// The table's block. Of more logical partitions than it holds it has the count, by which the archive refuses it.
 pub fn of_table(t: &MBR) -> Block {
     let mut block = [0; BLOCK];
     let (slots, tags) = block.split_at_mut(TAGS);

@@ -39,6 +39,7 @@ mod header;
 mod logical;
 mod table;
 
+pub use archive::{LOGICALS, RECORDS};
 pub use careful::{careful_push, careful_remove, Request};
 pub use chs::CHS;
 pub use disk::{Medium, Record};

@@ -8,15 +8,15 @@ use crate::{archive, block, disk, LogicalPartition, MBRHeader, MBRPartitionEntry
 
 /// A table: its header, its logical partitions, and what is known of the disk.
 ///
-/// Every function that computes asks the proved archive, and a refusal leaves the table as it was. With more than 24
-/// logical partitions all of these but `check_geometry` and `get_cylinder_size` refuse (6).
+/// Every function that computes asks the proved archive, and a refusal leaves the table as it was. With more than
+/// [`LOGICALS`](crate::LOGICALS) logical partitions all of these but `check_geometry` and `get_cylinder_size` refuse (6).
 #[derive(Debug, Clone, PartialEq, Eq)]
 pub struct MBR {
     /// Sector size of the disk in bytes: 512, 1,024, 2,048 or 4,096.
     pub sector_size: u32,
     /// The header.
     pub header: MBRHeader,
-    /// The logical partitions, at most 24.
+    /// The logical partitions, at most [`LOGICALS`](crate::LOGICALS).
     pub logical_partitions: Vec<LogicalPartition>,
     /// Alignment of partitions in sectors.
     pub align: u32,

@@ -310,7 +310,7 @@ impl Crate {
         format!("{} {}", self.given.o.len(), text::checksum(&self.given.o))
     }
 
-    /// The commands of the program numbers7; a count over 24 is document 01's alone.
+    /// The commands of the program case_writing; a count over 24 is document 01's alone.
     fn write_edited(&mut self, word: &str, t: MBR, x: &[u8]) -> Said {
         if t.logical_partitions.len() > LOGICALS {
             return None;

@@ -12,7 +12,7 @@ const NUMBERS5: [&str; 12] = ["get", "len", "find", "remove", "remove_at", "chec
 const NUMBERS6: [&str; 8] =
     ["free", "first_place", "last_place", "best_place", "most", "most_for", "free_into", "update_lent"];
 const NUMBERS7: [&str; 3] = ["write_table", "write_header", "read_o"];
-const PROGRAMS: [&str; 6] = ["numbers", "numbers4", "numbers5", "numbers6", "numbers7", "numbers8"];
+const PROGRAMS: [&str; 6] = ["case_records", "case_reading", "case_tables", "case_free", "case_writing", "case_careful"];
 
 /// The program that has a command.
 fn owner(word: &str) -> Option<usize> {

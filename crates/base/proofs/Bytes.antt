@@ -134,11 +134,11 @@ part-within s p xs q at n e a b =
 pub parts-join : (s x y : List ℕ) (a b c : ℕ) → x ≡ take a s → y ≡ take b (drop a s) → a + b ≡ c → x ++ y ≡ take c s
 parts-join s x y a b c e f g = rw (e, f, ← g) (sym (take-add a b s))
 
--- a word stands at a place exactly when the bytes there are it
-both-true : (a b : Bool) → (a && b) ≡ true → (a ≡ true) × (b ≡ true)
+pub both-true : (a b : Bool) → (a && b) ≡ true → (a ≡ true) × (b ≡ true)
 both-true true b h = (refl, h)
 both-true false b h = let w : _≡_ {A = ℕ} 0 1 = cc in absurd (omega arith)
 
+-- a word stands at a place exactly when the bytes there are it
 stands-from : (s : List ℕ) (at k : ℕ) (w : List ℕ) → standsAt s (at + k) w ≡ true → from s at k (length w) ≡ w
 stands-from s at k [] h = refl
 stands-from s at k (x ∷ xs) h =

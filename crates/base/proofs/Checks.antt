@@ -10,7 +10,7 @@ use lib.Dec.{eqb}
 use types.Run.{OneOf}
 use borrow.Author.Tests.{eq-eqb, ne-eqb}
 use Rattle.base.specs.Pick.{pick, among}
-use Rattle.base.specs.Said.{Said, gives, refuses, refusal}
+use Rattle.base.specs.Said.{Said, gives, refuses, refusalOf, refusal}
 use Rattle.base.specs.declared.Answer.{Answer}
 use Rattle.base.specs.declared.Answer.the-variants.{Done, Refused}
 use Rattle.base.proofs.Readings.{undone-injective, fromOption}
@@ -18,11 +18,11 @@ use Rattle.base.specs.Checks.{Check, checked, first-fail, answer, Holdin
 
 -- what an answer says determines it
 pub refusal-injective : (a b : Answer) → refusal a ≡ refusal b → a ≡ b
-refusal-injective = undone-injective refusal (fromOption Refused Done) back
+refusal-injective = undone-injective refusal (fromOption (λ k. Refused (refusalOf k)) Done) back
   where
-    back : (a : Answer) → fromOption Refused Done (refusal a) ≡ a
+    back : (a : Answer) → fromOption (λ k. Refused (refusalOf k)) Done (refusal a) ≡ a
     back Done = refl
-    back (Refused k) = refl
+    back (Refused r) = refl
 
 -- no check fails: all hold
 pub none-fails : (cs : List Check) → first-fail cs ≡ none → AllHold cs
@@ -122,6 +122,12 @@ pub append-holds : {A : Type 0} (cs ds : List Check) (deny : ℕ → A) (grant :
 append-holds cs ds deny grant h =
     let r = checked ds deny grant in
     checked-append cs ds deny grant ∙ checked-fail cs deny r ∙ ap (λ o. onFail o deny r) (all-hold cs h)
+
+pub fail-left : (cs ds : List Check) (k : ℕ) → first-fail cs ≡ some k → first-fail (cs ++ ds) ≡ some k
+fail-left cs ds k e = append-fails cs ds k some none e
+
+pub fail-right : (cs ds : List Check) → first-fail cs ≡ none → first-fail (cs ++ ds) ≡ first-fail ds
+fail-right cs ds e = append-holds cs ds some none (none-fails cs e)
 
 -- a number that is one of a list of keys, and one that is none of them
 later : (b : Bool) (c : Bool) → c ≡ true → pick b true c ≡ true

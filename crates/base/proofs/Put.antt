@@ -1,12 +1,12 @@
 -- Laws of `put`, of stores one by one, and of copies. Assumes nothing.
 use mathlib.Core.Path.{_≡_, refl, sym, ap, _∙_}
-use mathlib.Core.List.{List, [], _∷_, _++_, append-assoc}
+use mathlib.Core.List.{List, [], _∷_, _++_, append-assoc, append-nil}
 use Prim.Native.Nat.{ℕ, zero, suc, _+_, _≤_, _<_}
 use native.Mathlib.Nat.{add-zero, add-suc, add-assoc}
 use native.Mathlib.Numerals.{add-one}
 use native.Mathlib.Omega.{arith}
-use lib.ListN.{length, take, drop, getD, set, length-append, length-drop, length-set}
-use lib.Seq.{sets, sets-eq, length-sets, length-take-le, take-at, drop-at, drop-append-add, drop-drop, paste, paste-suc, take-length, take-suc, take-suc-set, take-all}
+use lib.ListN.{length, take, drop, getD, set, length-append, length-drop, length-set, take-append-drop, drop-of-length-le}
+use lib.Seq.{sets, sets-eq, length-sets, length-take-le, take-at, drop-at, drop-append-add, drop-drop, paste, paste-suc, take-length}
 use Rattle.base.specs.Bytes.{plus}
 use Rattle.base.specs.Put.{put, over, laid}
 use Rattle.base.proofs.Bytes.{plus-eq}
@@ -41,6 +41,22 @@ module _ (s : List ℕ) (at : ℕ) (xs : List ℕ) (h : at + length xs ≤ lengt
       ap (λ (n : ℕ). drop (n + length ys) (p ++ q)) (sym head-length) ∙ drop-append-add p q (length ys) in
       rw (e, f, drop-drop, append-assoc (take at s) xs ys, length-append, ← add-assoc)
 
+-- nothing put
+pub put-none : (d : List ℕ) (at : ℕ) → put d at [] ≡ d
+unfolding put
+put-none d at = rw (append-nil (take at d), add-zero at) (take-append-drop at d)
+
+-- a list of the same length put over all of another
+pub put-whole : (d v : List ℕ) → length d ≡ length v → put d 0 v ≡ v
+unfolding put
+put-whole d v e =
+    let h : length d ≤ 0 + length v = omega arith in
+    ap (λ l. v ++ l) (drop-of-length-le d h) ∙ append-nil v
+
+-- the first n elements put over all of a list of n
+pub put-front : (d e s : List ℕ) (n : ℕ) → length d ≡ n → n ≤ length s → e ≡ put d 0 (take n s) → e ≡ take n s
+put-front d e s n l h p = p ∙ put-whole d (take n s) (l ∙ sym (length-take-le n s h))
+
 -- ys right behind xs, which are n
 pub behind : (d e f : List ℕ) (at n : ℕ) (xs ys : List ℕ) → length xs ≡ n → at + n ≤ length d → e ≡ put d at xs → f ≡ put e (at + n) ys → f ≡ put d at (xs ++ ys)
 behind d e f at n xs ys l h p q =
@@ -59,14 +75,3 @@ unfolding put
 put-all d₀ d src at i e h k =
     let z : i ≡ length src = omega arith in
     e ∙ rw (z, take-length)
-
--- a turn of a copy out of a list, and its end
-pub copy-turn : (s code : List ℕ) (i : ℕ) → i < length code → i < length s → take i code ≡ take i s
-    → take (i + 1) (set code i (getD s i 0)) ≡ take (i + 1) s
-copy-turn s code i p q e = rw (add-one, take-suc-set, take-suc s i 0 q, e)
-
-pub copy-all : (code x : List ℕ) (n i : ℕ) → length code ≡ n → i ≤ n → n ≤ i → take i code ≡ take i x → code ≡ take n x
-copy-all code x n i l p q e =
-    let z : i ≡ n = omega arith in
-    let h : length code ≤ n = omega arith in
-    sym (take-all n code h) ∙ (rw z at e)

@@ -16,6 +16,10 @@ pub record Record (r : List ℕ) : Type 0 where
   pub long : length r ≡ 512
   pub bytes : Bytes r
 
+-- its last two bytes (rules M10 and B5)
+abbrev pub signature : List ℕ
+signature = 0x55 ∷ 0xAA ∷ []
+
 -- at + k, where at + 0 is at
 abbrev pub plus : ℕ → ℕ → ℕ
 plus at zero = at
@@ -58,7 +62,7 @@ digits (suc n) v = v % 256 ∷ digits n (v / 256)
 abbrev pub number : Order → List ℕ → ℕ
 number o bs = sum (inOrder o bs)
 
--- a number's n bytes (rules G8 and Z18)
+-- a number's n bytes (rules G7 and Z9)
 abbrev pub bytesOf : Order → ℕ → ℕ → List ℕ
 bytesOf o n v = inOrder o (digits n v)
 

@@ -4,6 +4,8 @@ use mathlib.Core.Bool.{Bool, true, false}
 use mathlib.Core.Option.{Option, none, some}
 use mathlib.Core.Path.{_≡_}
 use mathlib.Core.List.{List, [], _∷_, _++_}
+use lib.Dec.{eqb, leb}
+use lib.ListN.{length}
 use Rattle.base.specs.Pick.{pick}
 use Rattle.base.specs.Said.{Said, gives, refuses}
 
@@ -28,6 +30,13 @@ first-fail cs = checked cs some none
 -- the value if all checks hold, else the first one's number that fails
 abbrev pub answer : {A : Type 0} → List Check → A → Said A
 answer cs a = checked cs refuses (gives a)
+
+-- a lent record is 512 bytes; one is written to 512 lent bytes or more
+abbrev pub recordCheck : List ℕ → Check
+recordCheck r = 1 ! eqb (length r) 512
+
+abbrev pub recordRoom : ℕ → Check
+recordRoom room = 19 ! leb 512 room
 
 abbrev pub Holding : Check → Type 0
 Holding c = c .holds ≡ true

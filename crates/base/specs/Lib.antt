@@ -4,3 +4,4 @@ pub mod Put
 pub mod Said
 pub mod Checks
 pub mod Row
+pub mod All

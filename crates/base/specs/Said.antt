@@ -1,6 +1,7 @@
 -- What a call says: a value, or a refusal's number. Assumes nothing.
 use Prim.Native.Nat.{ℕ}
 use mathlib.Core.Option.{Option, none, some}
+use Rattle.base.specs.declared.Refusal.{Refusal}
 use Rattle.base.specs.declared.Answer.{Answer}
 use Rattle.base.specs.declared.Answer.the-variants.{Done, Refused}
 
@@ -23,7 +24,11 @@ abbrev pub valueOr : {A : Type 0} → A → Said A → A
 valueOr other (gives a) = a
 valueOr other (refuses k) = other
 
--- `Done` is no refusal; `Refused k` is the refusal number k
+-- the refusal of a number
+abbrev pub refusalOf : ℕ → Refusal
+refusalOf k = record { number = k }
+
+-- `Done` is no refusal; `Refused r` is the refusal of its number
 abbrev pub refusal : Answer → Option ℕ
 refusal Done = none
-refusal (Refused k) = some k
+refusal (Refused r) = some (r .number)

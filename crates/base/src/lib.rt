@@ -1,4 +1,6 @@
-// Numbers in lent bytes, and lists laid over lists. The crates above see to what its functions require.
+// Numbers in lent bytes, lists laid over lists, refusals in order.
+// Scope: all numbers little-endian; of several refusals the first is answered; other lent bytes stay. Rules: G.
+// For our crates: `get16`, `get32`, `put8`, `put16`, `put32`, `copy_in`, `stands_at`; `Answer`, a refusal or none.
 ghost use mathlib.Core.Path.{_≡_};
 ghost use Prim.Native.Nat.{_+_, _≤_, _<_};
 ghost use mathlib.Core.List.{List, [], _∷_};
@@ -6,11 +8,72 @@ ghost use lib.ListN.{length};
 ghost use Rattle.base.specs.Bytes.{number, bytesOf, bytesAt, standsAt, little};
 ghost use Rattle.base.specs.Put.{put};
 
+// Why a call is refused: the refusal's number.
+pub struct Refusal {
+    pub number: u8,
+}
+
+// The refusals, by the names that the C header gives their numbers; from 101 on those of a lent block.
+impl Refusal {
+    pub const BAD_EXTRACT: Refusal = Refusal { number: 1 };
+
+    pub const PAST_DISK: Refusal = Refusal { number: 2 };
+
+    pub const SIGNATURE: Refusal = Refusal { number: 3 };
+
+    pub const BOOT_FLAG: Refusal = Refusal { number: 4 };
+
+    pub const INCONSISTENT_EBR: Refusal = Refusal { number: 5 };
+
+    pub const TOO_MANY: Refusal = Refusal { number: 6 };
+
+    pub const ARITHMETIC: Refusal = Refusal { number: 7 };
+
+    pub const NO_EXTENDED: Refusal = Refusal { number: 8 };
+
+    pub const TOO_FEW_SECTORS: Refusal = Refusal { number: 9 };
+
+    pub const BEFORE_EXTENDED: Refusal = Refusal { number: 10 };
+
+    pub const NEAR_END: Refusal = Refusal { number: 11 };
+
+    pub const AFTER_END: Refusal = Refusal { number: 12 };
+
+    pub const CYLINDER_1023: Refusal = Refusal { number: 13 };
+
+    pub const CYLINDER_DISK: Refusal = Refusal { number: 14 };
+
+    pub const NOT_FOUND: Refusal = Refusal { number: 15 };
+
+    pub const NO_SPACE: Refusal = Refusal { number: 16 };
+
+    pub const NO_SUCH_LOGICAL: Refusal = Refusal { number: 17 };
+
+    pub const NO_LINK: Refusal = Refusal { number: 18 };
+
+    pub const OUTPUT_SHORT: Refusal = Refusal { number: 19 };
+
+    pub const NOT_SOUND: Refusal = Refusal { number: 20 };
+
+    pub const BEFORE_LAST: Refusal = Refusal { number: 21 };
+
+    pub const TOO_MANY_RECORDS: Refusal = Refusal { number: 22 };
+
+    pub const BAD_REQUEST: Refusal = Refusal { number: 23 };
+
+    pub const BLOCK_LENGTH: Refusal = Refusal { number: 101 };
+
+    pub const BLOCK_TAG: Refusal = Refusal { number: 102 };
+}
+
 // What a call that changes lent bytes, or returns a value beside it, says.
 pub enum Answer {
     Done,
-    Refused(u8),
+    Refused(Refusal),
 }
+
+// The last two bytes of an MBR and of an EBR.
+pub const SIGNATURE: [u8; 2] = *b"\x55\xAA";
 
 // A byte as a number to compute with.
 pub fn wide(b: u8) -> u32

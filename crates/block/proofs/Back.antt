@@ -14,12 +14,12 @@ use Rattle.base.specs.Said.{gives, refuses}
 use Rattle.base.specs.Checks.{answer, first-fail}
 use Rattle.base.proofs.Bytes.{number-bytesOf, part-within}
 use Rattle.base.proofs.Checks.{checked-none}
-use Rattle.chs.specs.declared.CHS.{CHS}
-use Rattle.entry.specs.declared.MBRPartitionEntry.{MBRPartitionEntry}
-use Rattle.ebr.specs.declared.Kept.{Kept}
-use Rattle.ebr.specs.Ebr.{keptOf}
-use Rattle.mbr.specs.declared.MBRHeader.{MBRHeader}
-use Rattle.mbr.specs.Mbr.{codeOf}
+use Rattle.record_chs.specs.declared.CHS.{CHS}
+use Rattle.record_entry.specs.declared.MBRPartitionEntry.{MBRPartitionEntry}
+use Rattle.record_ebr.specs.declared.Kept.{Kept}
+use Rattle.record_ebr.specs.Ebr.{keptOf}
+use Rattle.record_mbr.specs.declared.MBRHeader.{MBRHeader}
+use Rattle.record_mbr.specs.Mbr.{codeOf}
 use Rattle.table.specs.declared.MaybeSectors.{MaybeSectors}
 use Rattle.table.specs.declared.MaybeSectors.the-variants.{Absent, Present}
 use Rattle.table.specs.declared.MaybeChs.{MaybeChs}
@@ -27,8 +27,8 @@ use Rattle.table.specs.declared.MaybeChs.the-variants.{Absent as NoChs, Present
 use Rattle.table.specs.declared.LogicalPartition.{LogicalPartition}
 use Rattle.table.specs.declared.MBR.{MBR}
 use Rattle.table.specs.Table.{most, noLogical}
-use Rattle.block.specs.Block.{part, chsPart, chsIn, entryPart, entryIn, sectorsPart, sectorsTag, sectorsIn, lastPart, lastTag, lastIn, slotFront, slotPart, slotOf, tagOf, codePart, entriesPart, headerPart, headerIn, frontPart, slotsPart, tagsPart, slotAt, tagAt, slotsIn, possible, tagged, blockBytes, tableIn, blockChecks}
-use Rattle.mbr.specs.Fits.{ChsFits, EntryFits, HeaderFits}
+use Rattle.block.specs.Block.{part, chsPart, chsIn, entryPart, entryIn, sectorsPart, sectorsTag, sectorsIn, lastPart, lastTag, lastChsIn, slotFront, slotPart, slotOf, tagOf, codePart, entriesPart, headerPart, headerIn, frontPart, slotsPart, tagsPart, slotAt, tagAt, slotsIn, possible, tagged, blockBytes, tableIn, blockChecks, headerLength, slotLength, slotsOffset, tagsOffset, blockLength}
+use Rattle.record_mbr.specs.Fits.{ChsFits, EntryFits, HeaderFits}
 use Rattle.block.specs.Fits.{SectorsFit, LastFits, SlotFits, SlotsFit, TableFits}
 use Rattle.block.proofs.Laws.{length-front, length-slot, length-tags, part-at}
 
@@ -61,7 +61,7 @@ module _ (e : MBRPartitionEntry) (a : ℕ) (f : CHS) (q : List ℕ) where
   first-there k Absent n = chs-back f k
   first-there k (Present v) n = chs-back f k
 
-  last-there : (m : MaybeSectors) (n : MaybeChs) → LastFits n → lastIn (sectorsTag m + lastTag n) (fields m n) 30 ≡ n
+  last-there : (m : MaybeSectors) (n : MaybeChs) → LastFits n → lastChsIn (sectorsTag m + lastTag n) (fields m n) 30 ≡ n
   last-there Absent NoChs k = refl
   last-there Absent (SomeChs c) k = ap SomeChs (chs-back c k)
   last-there (Present v) NoChs k = refl
@@ -152,7 +152,7 @@ module _ (h : MBRHeader) (k : HeaderFits h) where
   n₄ : length (codePart h ++ entries) ≡ 518
   n₄ = length-append (codePart h) entries ∙ rw n₃
 
-  pub length-header : length (headerPart h) ≡ 520
+  pub length-header : length (headerPart h) ≡ headerLength
   length-header = ap length at-sign ∙ length-append (codePart h ++ entries) (sign ++ []) ∙ rw (n₄, append-nil sign, k .sign)
 
   pub header-back : headerIn (headerPart h) ≡ h
@@ -179,24 +179,24 @@ module _ (h : MBRHeader) (k : HeaderFits h) where
       }
 
 -- the slots of a block
-pub length-slots : (ls : List LogicalPartition) → SlotsFit ls → length (slotsPart ls) ≡ 480 * length ls
+pub length-slots : (ls : List LogicalPartition) → SlotsFit ls → length (slotsPart ls) ≡ slotLength * length ls
 unfolding slotsPart
 length-slots [] k = refl
 length-slots (l ∷ ls) k =
     length-append (slotPart l) (slotsPart ls) ∙ omega (arith, length-slot l (k .0 .code), length-slots ls (k .1))
 
 slot-there : (b p q : List ℕ) (ls : List LogicalPartition) (o n : ℕ) → b ≡ p ++ (slotsPart ls ++ q) → length p ≡ o → SlotsFit ls → n < length ls
-    → part b (o + 480 * n) 480 ≡ slotPart (getD ls n noLogical)
+    → part b (o + slotLength * n) slotLength ≡ slotPart (getD ls n noLogical)
 unfolding slotsPart
 slot-there b p q [] o n e a k h = absurd (omega arith)
 slot-there b p q (l ∷ ls) o zero e a k h =
-    part-at b p (slotPart l) (slotsPart ls ++ q) (o + 480 * 0) 480 (e ∙ ap (λ (r : List ℕ). p ++ r) (append-assoc (slotPart l) (slotsPart ls) q)) (omega arith) (length-slot l (k .0 .code))
+    part-at b p (slotPart l) (slotsPart ls ++ q) (o + slotLength * 0) slotLength (e ∙ ap (λ (r : List ℕ). p ++ r) (append-assoc (slotPart l) (slotsPart ls) q)) (omega arith) (length-slot l (k .0 .code))
 slot-there b p q (l ∷ ls) o (suc n) e a k h =
-    let z : o + 480 * suc n ≡ (o + 480) + 480 * n = omega arith in
-    let w : length (p ++ slotPart l) ≡ o + 480 = length-append p (slotPart l) ∙ omega (arith, length-slot l (k .0 .code)) in
+    let z : o + slotLength * suc n ≡ (o + slotLength) + slotLength * n = omega arith in
+    let w : length (p ++ slotPart l) ≡ o + slotLength = length-append p (slotPart l) ∙ omega (arith, length-slot l (k .0 .code)) in
     let f : b ≡ (p ++ slotPart l) ++ (slotsPart ls ++ q) = e ∙ ap (λ (r : List ℕ). p ++ r) (append-assoc (slotPart l) (slotsPart ls) q) ∙ sym (append-assoc p (slotPart l) (slotsPart ls ++ q)) in
-    ap (λ (i : ℕ). part b i 480) z
-    ∙ slot-there b (p ++ slotPart l) q ls (o + 480) n f w (k .1) (omega arith)
+    ap (λ (i : ℕ). part b i slotLength) z
+    ∙ slot-there b (p ++ slotPart l) q ls (o + slotLength) n f w (k .1) (omega arith)
 
 pub tag-there : (ls : List LogicalPartition) (n : ℕ) → n < length ls → getD (tagsPart ls) n 0 ≡ tagOf (getD ls n noLogical)
 unfolding tagsPart
@@ -209,27 +209,27 @@ fit-at [] n k h = absurd (omega arith)
 fit-at (l ∷ ls) zero k h = k .0
 fit-at (l ∷ ls) (suc n) k h = fit-at ls n (k .1) (omega arith)
 
-module _ (b p : List ℕ) (ls : List LogicalPartition) (e : b ≡ p ++ (slotsPart ls ++ tagsPart ls)) (a : length p ≡ 540) (k : SlotsFit ls) (l : length ls ≡ 24) where
-  tag-back : (n : ℕ) → n < 24 → tagAt b n ≡ tagOf (getD ls n noLogical)
+module _ (b p : List ℕ) (ls : List LogicalPartition) (e : b ≡ p ++ (slotsPart ls ++ tagsPart ls)) (a : length p ≡ slotsOffset) (k : SlotsFit ls) (l : length ls ≡ most) where
+  tag-back : (n : ℕ) → n < most → tagAt b n ≡ tagOf (getD ls n noLogical)
   tag-back n h =
-      let w : length (p ++ slotsPart ls) ≡ 12060 = length-append p (slotsPart ls) ∙ omega (arith, length-slots ls k) in
-      ap (λ (x : List ℕ). getD x (12060 + n) 0) (e ∙ sym (append-assoc p (slotsPart ls) (tagsPart ls)))
+      let w : length (p ++ slotsPart ls) ≡ tagsOffset = length-append p (slotsPart ls) ∙ omega (arith, length-slots ls k) in
+      ap (λ (x : List ℕ). getD x (tagsOffset + n) 0) (e ∙ sym (append-assoc p (slotsPart ls) (tagsPart ls)))
       ∙ ap (λ (m : ℕ). getD ((p ++ slotsPart ls) ++ tagsPart ls) (m + n) 0) (sym w)
       ∙ getD-append-add (p ++ slotsPart ls) (tagsPart ls) n 0
       ∙ tag-there ls n (omega arith)
 
-  slots-back : (n : ℕ) → n ≤ 24 → slotsIn b n ≡ take n ls
+  slots-back : (n : ℕ) → n ≤ most → slotsIn b n ≡ take n ls
   unfolding slotsIn
   slots-back zero h = refl
   slots-back (suc n) h =
       let s : slotOf (tagAt b n) (slotAt b n) ≡ getD ls n noLogical =
       ap (λ (t : ℕ). slotOf t (slotAt b n)) (tag-back n (omega arith))
-      ∙ ap (slotOf (tagOf (getD ls n noLogical))) (slot-there b p (tagsPart ls) ls 540 n e a k (omega arith))
+      ∙ ap (slotOf (tagOf (getD ls n noLogical))) (slot-there b p (tagsPart ls) ls slotsOffset n e a k (omega arith))
       ∙ slot-back (getD ls n noLogical) (fit-at ls n k (omega arith)) in
       let r : slotsIn b n ≡ take n ls = slots-back n (omega arith) in
       rw (r, s) (sym (take-suc ls n noLogical (omega arith)))
 
-  slots-tagged : (i n : ℕ) → i + n ≤ 24 → tagged b i n ≡ true
+  slots-tagged : (i n : ℕ) → i + n ≤ most → tagged b i n ≡ true
   unfolding tagged
   slots-tagged i zero h = refl
   slots-tagged i (suc n) h =
@@ -253,11 +253,11 @@ module _ (t : MBR) (k : TableFits t) where
   behind-front : blockBytes t ≡ front ++ (headerPart (t .header) ++ (slots ++ tags))
   behind-front = in-parts ∙ append-assoc front (headerPart (t .header)) (slots ++ tags)
 
-  m₂ : length (front ++ headerPart (t .header)) ≡ 540
+  m₂ : length (front ++ headerPart (t .header)) ≡ slotsOffset
   m₂ = length-append front (headerPart (t .header)) ∙ rw (length-header (t .header) (k .header))
 
   -- a block has 12,084 bytes
-  pub length-block : length (blockBytes t) ≡ 12084
+  pub length-block : length (blockBytes t) ≡ blockLength
   length-block =
       ap length in-parts ∙ length-append (front ++ headerPart (t .header)) (slots ++ tags)
       ∙ omega (arith, m₂, length-append slots tags, length-slots (t .«logical_partitions») (k .slots), length-tags (t .«logical_partitions»), k .long)
@@ -278,10 +278,10 @@ module _ (t : MBR) (k : TableFits t) where
       let cy : number little (bytesAt b 16 2) ≡ t .cylinders = ap (λ (x : List ℕ). number little (bytesAt x 16 2)) e ∙ number-bytesOf little 2 (t .cylinders) (k .cylinders) in
       let hd : getD b 18 0 ≡ t .heads = ap (λ (x : List ℕ). getD x 18 0) e in
       let sc : getD b 19 0 ≡ t .sectors = ap (λ (x : List ℕ). getD x 19 0) e in
-      let h : headerIn (part b 20 520) ≡ t .header =
-      ap headerIn (part-at b front (headerPart (t .header)) (slots ++ tags) 20 520 e refl (length-header (t .header) (k .header))) ∙ header-back (t .header) (k .header) in
+      let h : headerIn (part b 20 headerLength) ≡ t .header =
+      ap headerIn (part-at b front (headerPart (t .header)) (slots ++ tags) 20 headerLength e refl (length-header (t .header) (k .header))) ∙ header-back (t .header) (k .header) in
       let ls : List LogicalPartition = t .«logical_partitions» in
-      let s : slotsIn b 24 ≡ ls = slots-back b (front ++ headerPart (t .header)) ls in-parts m₂ (k .slots) (k .long) 24 (omega arith) ∙ take-all 24 ls (omega (arith, k .long)) in
+      let s : slotsIn b most ≡ ls = slots-back b (front ++ headerPart (t .header)) ls in-parts m₂ (k .slots) (k .long) most (omega arith) ∙ take-all most ls (omega (arith, k .long)) in
       λ i. record {
         «sector_size» = size i;
         header = h i;
@@ -297,7 +297,7 @@ module _ (t : MBR) (k : TableFits t) where
   -- and no check fails on it
   pub block-reads : t .count ≤ most → first-fail (blockChecks (blockBytes t)) ≡ none
   block-reads c =
-      rw (eq-eqb _ _ length-block, count-back, le-leb _ _ c, slots-tagged (blockBytes t) (front ++ headerPart (t .header)) (t .«logical_partitions») in-parts m₂ (k .slots) (k .long) 0 24 (omega arith))
+      rw (eq-eqb _ _ length-block, count-back, le-leb _ _ c, slots-tagged (blockBytes t) (front ++ headerPart (t .header)) (t .«logical_partitions») in-parts m₂ (k .slots) (k .long) 0 most (omega arith))
 
   -- so reading a block that was written answers the table
   pub block-gives : t .count ≤ most → answer (blockChecks (blockBytes t)) (tableIn (blockBytes t)) ≡ gives t

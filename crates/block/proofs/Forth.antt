@@ -1,7 +1,7 @@
 -- A block that passes the checks, its absent values zero, is the block of the table in it. Assumes nothing.
 use mathlib.Core.Path.{_≡_, refl, sym, ap, _∙_}
 use mathlib.Core.List.{List, [], _∷_, _++_}
-use mathlib.Core.Bool.{Bool, true, false, _&&_}
+use mathlib.Core.Bool.{Bool, true, false}
 use mathlib.Core.Option.{none}
 use Prim.Native.Nat.{ℕ, zero, suc, _+_, _*_, _%_, _≤_, _<_}
 use native.Mathlib.Nat.{add-zero, zero-add, add-assoc}
@@ -13,13 +13,14 @@ use borrow.Author.Tests.{eqb-true, eqb-false, leb-true, ltb-true, ltb-false}
 use Rattle.base.specs.Pick.{pick}
 use Rattle.base.specs.Bytes.{Bytes, bytesAt, number, bytesOf, little}
 use Rattle.base.specs.Checks.{first-fail}
-use Rattle.base.proofs.Bytes.{byte-at, bytes-take, bytes-drop, bytesOf-number, bytesAt-part, parts-join}
+use Rattle.base.proofs.Bytes.{byte-at, bytes-take, bytes-drop, bytesOf-number, bytesAt-part, parts-join, both-true}
 use Rattle.base.proofs.Checks.{none-fails}
-use Rattle.ebr.specs.Ebr.{keptOf}
-use Rattle.mbr.specs.Mbr.{codeOf}
+use Rattle.record_ebr.specs.Ebr.{keptOf}
+use Rattle.record_mbr.specs.Mbr.{codeOf}
 use Rattle.table.specs.declared.MaybeSectors.the-variants.{Absent, Present}
 use Rattle.table.specs.declared.MaybeChs.the-variants.{Absent as NoChs, Present as SomeChs}
-use Rattle.block.specs.Block.{part, chsPart, chsIn, entryPart, entryIn, sectorsPart, sectorsTag, sectorsIn, lastPart, lastTag, lastIn, slotPart, slotOf, tagOf, headerPart, headerIn, frontPart, slotsPart, tagsPart, slotAt, tagAt, slotsIn, possible, tagged, blockBytes, tableIn, blockChecks}
+use Rattle.table.specs.Table.{most}
+use Rattle.block.specs.Block.{part, chsPart, chsIn, entryPart, entryIn, sectorsPart, sectorsTag, sectorsIn, lastPart, lastTag, lastChsIn, slotPart, slotOf, tagOf, headerPart, headerIn, frontPart, slotsPart, tagsPart, slotAt, tagAt, slotsIn, possible, tagged, blockBytes, tableIn, blockChecks, headerLength, slotLength, slotsOffset, tagsOffset, blockLength}
 use Rattle.block.specs.Clean.{SlotClean, Clean}
 use Rattle.block.proofs.Laws.{slots-snoc, tags-snoc}
 
@@ -48,7 +49,7 @@ module _ (s : List ℕ) (b : Bytes s) where
       go true e = sym (z (eqb-true _ _ e))
       go false e = four-forth 22
 
-  last-forth : (tag : ℕ) → (tag < 2 → bytesAt s 30 4 ≡ replicate 4 0) → lastPart (lastIn tag s 30) ≡ bytesAt s 30 4
+  last-forth : (tag : ℕ) → (tag < 2 → bytesAt s 30 4 ≡ replicate 4 0) → lastPart (lastChsIn tag s 30) ≡ bytesAt s 30 4
   last-forth tag z = go (ltb tag 2) refl
     where
       go : (t : Bool) → ltb tag 2 ≡ t → lastPart (pick t NoChs (SomeChs (chsIn s 30))) ≡ bytesAt s 30 4
@@ -69,10 +70,6 @@ tag-forth tag s p = go (eqb (tag % 2) 0) (ltb tag 2) refl refl
     go false true e f = omega (arith, small, eqb-false (tag % 2) 0 e, ltb-true tag 2 f)
     go false false e f = omega (arith, small, eqb-false (tag % 2) 0 e, ltb-false tag 2 f)
 
-both : (a b : Bool) → (a && b) ≡ true → (a ≡ true) × (b ≡ true)
-both true b h = (refl, h)
-both false b h = let w : _≡_ {A = ℕ} 0 1 = cc in absurd (omega arith)
-
 kept-forth : (x : List ℕ) → length x ≤ 446 → keptOf x .«bootstrap_code» ≡ x
 unfolding keptOf
 kept-forth x h = take-all 446 x h
@@ -91,10 +88,10 @@ part-is : (b : List ℕ) (at n : ℕ) → part b at n ≡ take n (drop at b)
 unfolding part
 part-is b at n = refl
 
-slot-forth : (tag : ℕ) (s : List ℕ) → Bytes s → length s ≡ 480 → SlotClean tag s → slotPart (slotOf tag s) ≡ s
+slot-forth : (tag : ℕ) (s : List ℕ) → Bytes s → length s ≡ slotLength → SlotClean tag s → slotPart (slotOf tag s) ≡ s
 unfolding slotPart
 slot-forth tag s b n k =
-    let there : (at m : ℕ) → at + m ≤ 480 → bytesAt s at m ≡ take m (drop at s) = λ at m h. bytesAt-part s at m (omega (arith, n)) in
+    let there : (at m : ℕ) → at + m ≤ slotLength → bytesAt s at m ≡ take m (drop at s) = λ at m h. bytesAt-part s at m (omega (arith, n)) in
     let l = slotOf tag s in
     let x₁ : List ℕ = entryPart (l .partition) in
     let x₂ : List ℕ = x₁ ++ bytesOf little 4 (l .«absolute_ebr_lba» .0) in
@@ -107,16 +104,16 @@ slot-forth tag s b n k =
     let y₄ : x₄ ≡ take 30 s = parts-join s x₃ _ 26 4 30 y₃ (chs-forth s b 26 ∙ there 26 4 (omega arith)) refl in
     let y₅ : x₅ ≡ take 34 s = parts-join s x₄ _ 30 4 34 y₄ (last-forth s b tag (k .last) ∙ there 30 4 (omega arith)) refl in
     let c : l .kept .«bootstrap_code» ≡ take 446 (drop 34 s) = kept-forth (part s 34 446) (omega (arith, part-long s 34 446 (omega (arith, n)))) ∙ part-is s 34 446 in
-    parts-join s x₅ _ 34 446 480 y₅ c refl ∙ take-all 480 s (omega (arith, n))
+    parts-join s x₅ _ 34 446 slotLength y₅ c refl ∙ take-all slotLength s (omega (arith, n))
 
 code-forth : (s : List ℕ) → codeOf s ≡ take 440 s
 unfolding codeOf
 code-forth s = refl
 
-header-forth : (s : List ℕ) → Bytes s → length s ≡ 520 → headerPart (headerIn s) ≡ s
+header-forth : (s : List ℕ) → Bytes s → length s ≡ headerLength → headerPart (headerIn s) ≡ s
 unfolding headerPart
 header-forth s b n =
-    let there : (at m : ℕ) → at + m ≤ 520 → bytesAt s at m ≡ take m (drop at s) = λ at m h. bytesAt-part s at m (omega (arith, n)) in
+    let there : (at m : ℕ) → at + m ≤ headerLength → bytesAt s at m ≡ take m (drop at s) = λ at m h. bytesAt-part s at m (omega (arith, n)) in
     let x₁ : List ℕ = codeOf s in
     let x₂ : List ℕ = x₁ ++ bytesAt s 440 4 in
     let x₃ : List ℕ = x₂ ++ bytesAt s 444 2 in
@@ -131,49 +128,49 @@ header-forth s b n =
     let w₃ : e₁ ++ e₂ ++ e₃ ≡ take 54 (drop 446 s) = parts-join (drop 446 s) (e₁ ++ e₂) e₃ 36 18 54 w₂ (entry-forth s b 482 ∙ there 482 18 (omega arith) ∙ ap (take 18) (sym (drop-drop 36 446 s))) refl in
     let w₄ : e₁ ++ e₂ ++ e₃ ++ e₄ ≡ take 72 (drop 446 s) = parts-join (drop 446 s) (e₁ ++ e₂ ++ e₃) e₄ 54 18 72 w₃ (entry-forth s b 500 ∙ there 500 18 (omega arith) ∙ ap (take 18) (sym (drop-drop 54 446 s))) refl in
     let y₄ : x₃ ++ (e₁ ++ e₂ ++ e₃ ++ e₄) ≡ take 518 s = parts-join s x₃ (e₁ ++ e₂ ++ e₃ ++ e₄) 446 72 518 y₃ w₄ refl in
-    parts-join s (x₃ ++ (e₁ ++ e₂ ++ e₃ ++ e₄)) (bytesAt s 518 2) 518 2 520 y₄ (there 518 2 (omega arith)) refl ∙ take-all 520 s (omega (arith, n))
+    parts-join s (x₃ ++ (e₁ ++ e₂ ++ e₃ ++ e₄)) (bytesAt s 518 2) 518 2 headerLength y₄ (there 518 2 (omega arith)) refl ∙ take-all headerLength s (omega (arith, n))
 
 -- each tag is possible
 pub tagged-at : (b : List ℕ) (i n k : ℕ) → tagged b i n ≡ true → k < n → possible (tagAt b (i + k)) ≡ true
 unfolding tagged
 tagged-at b i zero k t h = absurd (omega arith)
-tagged-at b i (suc n) zero t h = ap (λ (j : ℕ). possible (tagAt b j)) (add-zero i) ∙ both (possible (tagAt b i)) (tagged b (suc i) n) t .0
+tagged-at b i (suc n) zero t h = ap (λ (j : ℕ). possible (tagAt b j)) (add-zero i) ∙ both-true (possible (tagAt b i)) (tagged b (suc i) n) t .0
 tagged-at b i (suc n) (suc k) t h =
     let z : i + suc k ≡ suc i + k = omega arith in
-    ap (λ (j : ℕ). possible (tagAt b j)) z ∙ tagged-at b (suc i) n k (both (possible (tagAt b i)) (tagged b (suc i) n) t .1) (omega arith)
+    ap (λ (j : ℕ). possible (tagAt b j)) z ∙ tagged-at b (suc i) n k (both-true (possible (tagAt b i)) (tagged b (suc i) n) t .1) (omega arith)
 
 module _ (b : List ℕ) (k : Bytes b) (f : first-fail (blockChecks b) ≡ none) (c : Clean b) where
-  long : length b ≡ 12084
+  long : length b ≡ blockLength
   long = eqb-true _ _ (none-fails (blockChecks b) f .0)
 
-  tags : tagged b 0 24 ≡ true
+  tags : tagged b 0 most ≡ true
   tags = none-fails (blockChecks b) f .1 .1 .0
 
-  slot-there : (n : ℕ) → n < 24 → slotPart (slotOf (tagAt b n) (slotAt b n)) ≡ take 480 (drop (480 * n) (drop 540 b))
+  slot-there : (n : ℕ) → n < most → slotPart (slotOf (tagAt b n) (slotAt b n)) ≡ take slotLength (drop (slotLength * n) (drop slotsOffset b))
   slot-there n h =
-      let l : 540 + 480 * n + 480 ≤ length b = omega (arith, long) in
-      slot-forth (tagAt b n) (slotAt b n) (part-bytes b (540 + 480 * n) 480 k) (part-long b (540 + 480 * n) 480 l) (c n h)
-      ∙ part-is b (540 + 480 * n) 480 ∙ ap (take 480) (sym (drop-drop (480 * n) 540 b))
+      let l : slotsOffset + slotLength * n + slotLength ≤ length b = omega (arith, long) in
+      slot-forth (tagAt b n) (slotAt b n) (part-bytes b (slotsOffset + slotLength * n) slotLength k) (part-long b (slotsOffset + slotLength * n) slotLength l) (c n h)
+      ∙ part-is b (slotsOffset + slotLength * n) slotLength ∙ ap (take slotLength) (sym (drop-drop (slotLength * n) slotsOffset b))
 
-  slots-forth : (n : ℕ) → n ≤ 24 → slotsPart (slotsIn b n) ≡ take (480 * n) (drop 540 b)
+  slots-forth : (n : ℕ) → n ≤ most → slotsPart (slotsIn b n) ≡ take (slotLength * n) (drop slotsOffset b)
   unfolding slotsIn slotsPart
   slots-forth zero h = refl
   slots-forth (suc n) h =
       let s = slotOf (tagAt b n) (slotAt b n) in
-      let z : 480 * n + 480 ≡ 480 * suc n = omega arith in
-      slots-snoc (slotsIn b n) s ∙ parts-join (drop 540 b) (slotsPart (slotsIn b n)) (slotPart s) (480 * n) 480 (480 * suc n) (slots-forth n (omega arith)) (slot-there n (omega arith)) z
+      let z : slotLength * n + slotLength ≡ slotLength * suc n = omega arith in
+      slots-snoc (slotsIn b n) s ∙ parts-join (drop slotsOffset b) (slotsPart (slotsIn b n)) (slotPart s) (slotLength * n) slotLength (slotLength * suc n) (slots-forth n (omega arith)) (slot-there n (omega arith)) z
 
-  tags-forth : (n : ℕ) → n ≤ 24 → tagsPart (slotsIn b n) ≡ take n (drop 12060 b)
+  tags-forth : (n : ℕ) → n ≤ most → tagsPart (slotsIn b n) ≡ take n (drop tagsOffset b)
   unfolding slotsIn tagsPart
   tags-forth zero h = refl
   tags-forth (suc n) h =
       let s = slotOf (tagAt b n) (slotAt b n) in
-      let t : possible (tagAt b n) ≡ true = ap (λ (j : ℕ). possible (tagAt b j)) (sym (zero-add n)) ∙ tagged-at b 0 24 n tags (omega arith) in
-      let u : n < length (drop 12060 b) = omega (arith, length-drop 12060 b, long) in
+      let t : possible (tagAt b n) ≡ true = ap (λ (j : ℕ). possible (tagAt b j)) (sym (zero-add n)) ∙ tagged-at b 0 most n tags (omega arith) in
+      let u : n < length (drop tagsOffset b) = omega (arith, length-drop tagsOffset b, long) in
       tags-snoc (slotsIn b n) s
       ∙ ap (λ (x : List ℕ). x ++ (tagOf s ∷ [])) (tags-forth n (omega arith))
-      ∙ ap (λ (v : ℕ). take n (drop 12060 b) ++ (v ∷ [])) (tag-forth (tagAt b n) (slotAt b n) t ∙ sym (getD-drop 12060 b n 0))
-      ∙ sym (take-suc (drop 12060 b) n 0 u)
+      ∙ ap (λ (v : ℕ). take n (drop tagsOffset b) ++ (v ∷ [])) (tag-forth (tagAt b n) (slotAt b n) t ∙ sym (getD-drop tagsOffset b n 0))
+      ∙ sym (take-suc (drop tagsOffset b) n 0 u)
 
   -- a block is that of the table in it
   pub block-forth : blockBytes (tableIn b) ≡ b
@@ -181,12 +178,12 @@ module _ (b : List ℕ) (k : Bytes b) (f : first-fail (blockChecks b) ≡ none) 
   block-forth =
       let t = tableIn b in
       let x₁ : List ℕ = frontPart (number little (bytesAt b 0 4)) (number little (bytesAt b 4 4)) (number little (bytesAt b 8 4)) (number little (bytesAt b 12 4)) (number little (bytesAt b 16 2)) (getD b 18 0) (getD b 19 0) in
-      let h : List ℕ = headerPart (headerIn (part b 20 520)) in
+      let h : List ℕ = headerPart (headerIn (part b 20 headerLength)) in
       let x₂ : List ℕ = x₁ ++ h in
       let e₁ : x₁ ≡ bytesAt b 0 20 = cc (four-forth b k 0, four-forth b k 4, four-forth b k 8, four-forth b k 12, two-forth b k 16) in
       let y₁ : x₁ ≡ take 20 b = e₁ ∙ bytesAt-part b 0 20 (omega (arith, long)) in
-      let e₂ : h ≡ take 520 (drop 20 b) = header-forth (part b 20 520) (part-bytes b 20 520 k) (part-long b 20 520 (omega (arith, long))) ∙ part-is b 20 520 in
-      let y₂ : x₂ ≡ take 540 b = parts-join b x₁ h 20 520 540 y₁ e₂ refl in
-      let x₃ : List ℕ = x₂ ++ slotsPart (slotsIn b 24) in
-      let y₃ : x₃ ≡ take 12060 b = parts-join b x₂ (slotsPart (slotsIn b 24)) 540 11520 12060 y₂ (slots-forth 24 (omega arith)) refl in
-      parts-join b x₃ (tagsPart (slotsIn b 24)) 12060 24 12084 y₃ (tags-forth 24 (omega arith)) refl ∙ take-all 12084 b (omega (arith, long))
+      let e₂ : h ≡ take headerLength (drop 20 b) = header-forth (part b 20 headerLength) (part-bytes b 20 headerLength k) (part-long b 20 headerLength (omega (arith, long))) ∙ part-is b 20 headerLength in
+      let y₂ : x₂ ≡ take slotsOffset b = parts-join b x₁ h 20 headerLength slotsOffset y₁ e₂ refl in
+      let x₃ : List ℕ = x₂ ++ slotsPart (slotsIn b most) in
+      let y₃ : x₃ ≡ take tagsOffset b = parts-join b x₂ (slotsPart (slotsIn b most)) slotsOffset (slotLength * most) tagsOffset y₂ (slots-forth most (omega arith)) refl in
+      parts-join b x₃ (tagsPart (slotsIn b most)) tagsOffset most blockLength y₃ (tags-forth most (omega arith)) refl ∙ take-all blockLength b (omega (arith, long))

@@ -9,11 +9,11 @@ use lib.ListN.{length, getD, length-append, List·getD-append}
 use lib.Seq.{getD-at}
 use borrow.Author.Tests.{ltb-true, ltb-false}
 use Rattle.base.specs.Bytes.{bytesAt, number, little}
-use Rattle.entry.specs.Entry.{noEntry}
-use Rattle.mbr.specs.Mbr.{primaries}
+use Rattle.record_entry.specs.Entry.{noEntry}
+use Rattle.record_mbr.specs.Mbr.{primaries}
 use Rattle.table.specs.declared.LogicalPartition.{LogicalPartition}
 use Rattle.table.specs.Table.{most, noLogical}
-use Rattle.block.specs.Block.{part, entryIn, headerIn, slotOf, slotAt, tagAt, slotsIn, tableIn}
+use Rattle.block.specs.Block.{part, entryIn, headerIn, slotOf, slotAt, tagAt, slotsIn, tableIn, entryLength, headerLength}
 
 -- the front
 pub size-in : (b : List ℕ) → tableIn b .«sector_size» ≡ number little (bytesAt b 0 4)
@@ -45,11 +45,11 @@ unfolding tableIn
 sectors-in b = refl
 
 -- the header, and its entries
-pub header-in : (b : List ℕ) → tableIn b .header ≡ headerIn (part b 20 520)
+pub header-in : (b : List ℕ) → tableIn b .header ≡ headerIn (part b 20 headerLength)
 unfolding tableIn
 header-in b = refl
 
-pub primary-in : (b : List ℕ) (i : ℕ) → i < 4 → getD (primaries (tableIn b .header)) i noEntry ≡ entryIn (part b 20 520) (446 + 18 * i)
+pub primary-in : (b : List ℕ) (i : ℕ) → i < 4 → getD (primaries (tableIn b .header)) i noEntry ≡ entryIn (part b 20 headerLength) (446 + entryLength * i)
 unfolding tableIn
 primary-in b zero h = refl
 primary-in b (suc zero) h = refl

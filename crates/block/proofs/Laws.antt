@@ -10,7 +10,7 @@ use Rattle.table.specs.declared.MaybeSectors.the-variants.{Absent, Present}
 use Rattle.table.specs.declared.MaybeChs.{MaybeChs}
 use Rattle.table.specs.declared.MaybeChs.the-variants.{Absent as NoChs, Present as SomeChs}
 use Rattle.table.specs.declared.LogicalPartition.{LogicalPartition}
-use Rattle.block.specs.Block.{part, chsPart, entryPart, sectorsPart, lastPart, slotFront, slotPart, slotsPart, tagOf, tagsPart}
+use Rattle.block.specs.Block.{part, chsPart, entryPart, sectorsPart, lastPart, slotFront, slotPart, slotsPart, tagOf, tagsPart, slotLength}
 
 pub length-sectors : (m : MaybeSectors) → length (sectorsPart m) ≡ 4
 length-sectors Absent = refl
@@ -29,7 +29,7 @@ length-front l =
     let n₄ : length x₄ ≡ 30 = length-append x₃ (chsPart (l .«ebr_first_chs»)) ∙ rw n₃ in
     length-append x₄ (lastPart (l .«ebr_last_chs»)) ∙ rw (n₄, length-last (l .«ebr_last_chs»))
 
-pub length-slot : (l : LogicalPartition) → length (l .kept .«bootstrap_code») ≡ 446 → length (slotPart l) ≡ 480
+pub length-slot : (l : LogicalPartition) → length (l .kept .«bootstrap_code») ≡ 446 → length (slotPart l) ≡ slotLength
 unfolding slotPart
 length-slot l n = length-append (slotFront l) (l .kept .«bootstrap_code») ∙ rw (length-front l, n)
 

@@ -4,3 +4,4 @@ pub mod Back
 pub mod Forth
 pub mod Over
 pub mod Slots
+pub mod calls

@@ -1,43 +1,61 @@
--- The table block: a table as 12,084 bytes at fixed offsets, every number little-endian. Assumes nothing.
-use Prim.Native.Nat.{ℕ, zero, suc, _+_, _*_, _%_}
+-- The table block: a table as bytes at fixed offsets, every number little-endian. Assumes nothing.
+use Prim.Native.Nat.{ℕ, zero, suc, _+_, _*_, _%_, _≤_}
 use mathlib.Core.List.{List, [], _∷_, _++_}
 use mathlib.Core.Bool.{Bool, true, _&&_}
+use mathlib.Core.Path.{_≡_}
 use lib.Dec.{eqb, leb, ltb}
 use lib.ListN.{length, getD, take, drop}
 use Rattle.base.specs.Pick.{pick}
 use Rattle.base.specs.Bytes.{bytesAt, number, bytesOf, little}
 use Rattle.base.specs.Put.{put}
 use Rattle.base.specs.Checks.{Check, _!_}
-use Rattle.chs.specs.declared.CHS.{CHS}
-use Rattle.chs.specs.Chs.{chs, noChs}
-use Rattle.entry.specs.declared.MBRPartitionEntry.{MBRPartitionEntry}
-use Rattle.ebr.specs.Ebr.{keptOf}
-use Rattle.mbr.specs.declared.MBRHeader.{MBRHeader}
-use Rattle.mbr.specs.Mbr.{codeOf}
+use Rattle.record_chs.specs.declared.CHS.{CHS}
+use Rattle.record_chs.specs.Chs.{chs, noChs}
+use Rattle.record_entry.specs.declared.MBRPartitionEntry.{MBRPartitionEntry}
+use Rattle.record_ebr.specs.Ebr.{keptOf}
+use Rattle.record_mbr.specs.declared.MBRHeader.{MBRHeader}
+use Rattle.record_mbr.specs.Mbr.{codeOf}
 use Rattle.table.specs.declared.MaybeSectors.{MaybeSectors}
 use Rattle.table.specs.declared.MaybeSectors.the-variants.{Absent, Present}
 use Rattle.table.specs.declared.MaybeChs.{MaybeChs}
 use Rattle.table.specs.declared.MaybeChs.the-variants.{Absent as NoChs, Present as SomeChs}
 use Rattle.table.specs.declared.LogicalPartition.{LogicalPartition}
 use Rattle.table.specs.declared.MBR.{MBR}
-use Rattle.table.specs.Table.{most}
+use Rattle.table.specs.Table.{most, countCheck}
 
--- front 20, header 520, 24 slots of 480, 24 tags
+-- the bytes of an entry, of the header, of a slot
+abbrev pub entryLength : ℕ
+entryLength = 18
+
+abbrev pub headerLength : ℕ
+headerLength = 446 + 4 * entryLength + 2
+
+abbrev pub slotLength : ℕ
+slotLength = entryLength + 16 + 446
+
+-- where the slots begin, behind the front of 20 and the header; where the tags begin
+abbrev pub slotsOffset : ℕ
+slotsOffset = 20 + headerLength
+
+abbrev pub tagsOffset : ℕ
+tagsOffset = slotsOffset + slotLength * most
+
+-- front, header, slots, tags
 abbrev pub blockLength : ℕ
-blockLength = 12084
+blockLength = tagsOffset + most
 
 -- the n bytes from index at on
 unfoldable pub part : List ℕ → ℕ → ℕ → List ℕ
 part b at n = take n (drop at b)
 
--- rule Z12: an address, cylinder 2, head, sector
+-- rule Z11: an address, cylinder 2, head, sector
 abbrev pub chsPart : CHS → List ℕ
 chsPart c = bytesOf little 2 (c .cylinder) ++ (c .head ∷ c .sector ∷ [])
 
 abbrev pub chsIn : List ℕ → ℕ → CHS
 chsIn s at = chs (number little (bytesAt s at 2)) (getD s (at + 2) 0) (getD s (at + 3) 0)
 
--- rule Z11: an entry of 18, flag, first address, type, last address, start, sectors
+-- rule Z11: an entry, flag, first address, type, last address, start, sectors
 abbrev pub entryPart : MBRPartitionEntry → List ℕ
 entryPart e =
     (e .boot ∷ []) ++ chsPart (e .«first_chs») ++ (e .sys ∷ []) ++ chsPart (e .«last_chs») ++ bytesOf little 4 (e .«starting_lba») ++ bytesOf little 4 (e .sectors)
@@ -53,7 +71,7 @@ entryIn s at =
       sectors = number little (bytesAt s (at + 14) 4);
     }
 
--- rule Z16: a value that may be absent; its bytes are zero then when written, and ignored when read
+-- rule Z11: a value that may be absent; its bytes are zero then when written, and ignored when read
 abbrev pub sectorsPart : MaybeSectors → List ℕ
 sectorsPart Absent = bytesOf little 4 0
 sectorsPart (Present v) = bytesOf little 4 v
@@ -62,7 +80,7 @@ abbrev pub lastPart : MaybeChs → List ℕ
 lastPart NoChs = chsPart noChs
 lastPart (SomeChs c) = chsPart c
 
--- rule Z15: a slot's tag tells which of the two is there, 1 the link sectors, 2 the last link address, 3 both, 0 none
+-- rule Z11: a slot's tag tells which of the two is there, 1 the link sectors, 2 the last link address, 3 both, 0 none
 abbrev pub sectorsTag : MaybeSectors → ℕ
 sectorsTag Absent = 0
 sectorsTag (Present v) = 1
@@ -77,10 +95,10 @@ tagOf l = sectorsTag (l .«ebr_sectors») + lastTag (l .«ebr_last_chs»)
 abbrev pub sectorsIn : ℕ → List ℕ → ℕ → MaybeSectors
 sectorsIn tag s at = pick (eqb (tag % 2) 0) Absent (Present (number little (bytesAt s at 4)))
 
-abbrev pub lastIn : ℕ → List ℕ → ℕ → MaybeChs
-lastIn tag s at = pick (ltb tag 2) NoChs (SomeChs (chsIn s at))
+abbrev pub lastChsIn : ℕ → List ℕ → ℕ → MaybeChs
+lastChsIn tag s at = pick (ltb tag 2) NoChs (SomeChs (chsIn s at))
 
--- rule Z13: a slot of 480, entry, EBR place, link sectors, first and last link address, code
+-- rule Z11: a slot, entry, EBR place, link sectors, first and last link address, code
 abbrev pub slotFront : LogicalPartition → List ℕ
 slotFront l =
     entryPart (l .partition) ++ bytesOf little 4 (l .«absolute_ebr_lba» .0) ++ sectorsPart (l .«ebr_sectors») ++ chsPart (l .«ebr_first_chs»)
@@ -97,11 +115,11 @@ slotOf tag s =
       «absolute_ebr_lba» = record { 0 = number little (bytesAt s 18 4) };
       «ebr_sectors» = sectorsIn tag s 22;
       «ebr_first_chs» = chsIn s 26;
-      «ebr_last_chs» = lastIn tag s 30;
+      «ebr_last_chs» = lastChsIn tag s 30;
       kept = keptOf (part s 34 446);
     }
 
--- rule Z10: the header of 520, code, disk signature, copy mark, four entries, signature
+-- rule Z9: the header, code, disk signature, copy mark, four entries, signature
 abbrev pub codePart : MBRHeader → List ℕ
 codePart h = h .«bootstrap_code» ++ h .«disk_signature» ++ h .«copy_protected»
 
@@ -131,7 +149,7 @@ frontPart size disk align count cylinders heads sectors =
     bytesOf little 4 size ++ bytesOf little 4 disk ++ bytesOf little 4 align ++ bytesOf little 4 count ++ bytesOf little 2 cylinders
     ++ (heads ∷ sectors ∷ [])
 
--- rule Z17: every slot, the unused ones too, and the tag of each
+-- rule Z9: every slot, the unused ones too, and the tag of each
 unfoldable pub slotsPart : List LogicalPartition → List ℕ
 slotsPart [] = []
 slotsPart (l ∷ ls) = slotPart l ++ slotsPart ls
@@ -140,31 +158,38 @@ unfoldable pub tagsPart : List LogicalPartition → List ℕ
 tagsPart [] = []
 tagsPart (l ∷ ls) = tagOf l ∷ tagsPart ls
 
--- rule Z14: the bytes of slot i, and its tag
+-- rule Z9: where slot i and its tag stand
+abbrev pub slotPlace : ℕ → ℕ
+slotPlace i = slotsOffset + slotLength * i
+
+abbrev pub tagPlace : ℕ → ℕ
+tagPlace i = tagsOffset + i
+
+-- the bytes of slot i, and its tag
 abbrev pub slotAt : List ℕ → ℕ → List ℕ
-slotAt b i = part b (540 + 480 * i) 480
+slotAt b i = part b (slotPlace i) slotLength
 
 abbrev pub tagAt : List ℕ → ℕ → ℕ
-tagAt b i = getD b (12060 + i) 0
+tagAt b i = getD b (tagPlace i) 0
 
 -- a block with a logical partition in slot i
 unfoldable pub slotPut : List ℕ → ℕ → LogicalPartition → List ℕ
-slotPut b i l = put (put b (540 + 480 * i) (slotPart l)) (12060 + i) (tagOf l ∷ [])
+slotPut b i l = put (put b (slotPlace i) (slotPart l)) (tagPlace i) (tagOf l ∷ [])
 
 -- a block with logical partitions in its first slots
 unfoldable pub slotsPut : List ℕ → List LogicalPartition → List ℕ
-slotsPut b ls = put (put b 540 (slotsPart ls)) 12060 (tagsPart ls)
+slotsPut b ls = put (put b slotsOffset (slotsPart ls)) tagsOffset (tagsPart ls)
 
 -- the first n slots
 unfoldable pub slotsIn : List ℕ → ℕ → List LogicalPartition
 slotsIn b zero = []
 slotsIn b (suc n) = slotsIn b n ++ (slotOf (tagAt b n) (slotAt b n) ∷ [])
 
--- rule Z5: a tag from 0 to 3
+-- rule Z1: a tag from 0 to 3
 abbrev pub possible : ℕ → Bool
 possible tag = leb tag 3
 
--- rule Z4: n tags from that of slot i on are possible
+-- rule Z1: n tags from that of slot i on are possible
 unfoldable pub tagged : List ℕ → ℕ → ℕ → Bool
 tagged b i zero = true
 tagged b i (suc n) = possible (tagAt b i) && tagged b (suc i) n
@@ -180,7 +205,7 @@ unfoldable pub tableIn : List ℕ → MBR
 tableIn b =
     record {
       «sector_size» = number little (bytesAt b 0 4);
-      header = headerIn (part b 20 520);
+      header = headerIn (part b 20 headerLength);
       «logical_partitions» = slotsIn b most;
       count = number little (bytesAt b 12 4);
       align = number little (bytesAt b 8 4);
@@ -190,11 +215,17 @@ tableIn b =
       «disk_size» = number little (bytesAt b 4 4);
     }
 
--- rules Z7, Z8: a table for a block; a count over the capacity 6, before everything else; then lent bytes of another length 101
+-- rule Z1: a table for a block; a count over the capacity 6, before everything else; then lent bytes of another length 101
 abbrev pub putChecks : MBR → ℕ → List Check
-putChecks t room = (6 ! leb (t .count) most) ∷ (101 ! eqb room blockLength) ∷ []
+putChecks t room = countCheck t ∷ (101 ! eqb room blockLength) ∷ []
 
--- rules Z1 to Z6: a block; another length 101, since it has no count to look at; a count over the capacity 6; an impossible tag 102
+-- rule Z1: a block; another length 101, since it has no count to look at; a count over the capacity 6; an impossible tag 102
 abbrev pub blockChecks : List ℕ → List Check
 blockChecks b =
     (101 ! eqb (length b) blockLength) ∷ (6 ! leb (number little (bytesAt b 12 4)) most) ∷ (102 ! tagged b 0 most) ∷ []
+
+-- a block that has passed them
+pub record Passed (b : List ℕ) : Type 0 where
+  pub long : length b ≡ blockLength
+  pub few : tableIn b .count ≤ most
+  pub tags : tagged b 0 most ≡ true

@@ -3,7 +3,7 @@ use Prim.Native.Nat.{_<_, _^_}
 use mathlib.Core.List.{List, [], _∷_}
 use mathlib.Core.Path.{_≡_}
 use lib.ListN.{length}
-use Rattle.mbr.specs.Fits.{ChsFits, EntryFits, HeaderFits}
+use Rattle.record_mbr.specs.Fits.{ChsFits, EntryFits, HeaderFits}
 use Rattle.table.specs.declared.MaybeSectors.{MaybeSectors}
 use Rattle.table.specs.declared.MaybeSectors.the-variants.{Absent, Present}
 use Rattle.table.specs.declared.MaybeChs.{MaybeChs}

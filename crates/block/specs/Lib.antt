@@ -1,3 +1,4 @@
 pub mod Block
 pub mod Fits
 pub mod Clean
+pub mod Blocks

@@ -12,20 +12,20 @@ use borrow.Author.Tests.{ltb-true, leb-true, lt-ltb, not-true}
 use Rattle.base.specs.Checks.{Check, _!_, AllHold}
 use Rattle.base.specs.Said.{gives}
 use Rattle.base.proofs.Checks.{hold-left, hold-right}
-use Rattle.entry.specs.declared.MBRPartitionEntry.{MBRPartitionEntry}
-use Rattle.entry.specs.Entry.{noEntry, used, extended, endOf}
+use Rattle.record_entry.specs.declared.MBRPartitionEntry.{MBRPartitionEntry}
+use Rattle.record_entry.specs.Entry.{noEntry, used, extended, endOf}
 use Rattle.extract.specs.Disk.{Disk, Store}
 use Rattle.table.specs.declared.LogicalPartition.{LogicalPartition}
 use Rattle.table.specs.Table.{most}
 use Rattle.chain.specs.Chain.{firstLink}
 use Rattle.chain.specs.Facts.{seen, at, linkIn, Holds}
-use Rattle.request.specs.declared.Request.{Request}
-use Rattle.push.specs.Push.{placeOf, sizeOf, laterThan, newLogical, roundChecks, placeChecks, endChecks, geometryChecks, pushChecks, pushed}
-use Rattle.sound.specs.Sound.{Contents, extendedIn, areaEnd, end, Sound, soundb}
+use Rattle.table_push.specs.declared.request.Request.{Request}
+use Rattle.table_push.specs.Push.{placeOf, sizeOf, laterThan, newLogical, roundChecks, placeChecks, endChecks, geometryChecks, pushChecks, pushed}
+use Rattle.sound.specs.Sound.{Contents, extendedEntry, areaEnd, end, Sound, soundb}
 use Rattle.sound.proofs.Test.{is-sound}
-use Rattle.links.specs.Links.{write}
-use Rattle.careful.specs.Stores.{moved, firstPlace, leftOut, lastOf, pushStores, skipStore, removeStore}
-use Rattle.careful.specs.Careful.{relist, roomNeeded, askChecks, lastEnd, spaceChecks, pushRefusals, pushChange, removeRefusals, removeChange}
+use Rattle.chain.specs.Links.{write}
+use Rattle.careful.specs.Stores.{moved, firstInPlace, leftOut, lastLogical, lastListed, pushStores, skipStore, removeStore}
+use Rattle.careful.specs.Careful.{relist, roomNeeded, askChecks, spaceChecks, pushRefusals, pushChange, removeRefusals, removeChange}
 use Rattle.careful.specs.Demand3.{Whole, contentsOn, Safe}
 use Rattle.careful.proofs.Shown.{Shows, contents→shows, Heads, holds-heads}
 use Rattle.careful.proofs.Split.{split}
@@ -38,13 +38,13 @@ unfoldable initOf : LogicalPartition → List LogicalPartition → List LogicalP
 initOf l [] = []
 initOf l (m ∷ ms) = l ∷ initOf m ms
 
-init-last : (l : LogicalPartition) (ls : List LogicalPartition) → initOf l ls ++ lastOf l ls ∷ [] ≡ l ∷ ls
-unfolding initOf lastOf
+init-last : (l : LogicalPartition) (ls : List LogicalPartition) → initOf l ls ++ lastLogical l ls ∷ [] ≡ l ∷ ls
+unfolding initOf lastLogical
 init-last l [] = refl
 init-last l (m ∷ ms) = ap (_∷_ l) (init-last m ms)
 
-appended : (l : LogicalPartition) (ls : List LogicalPartition) (n : LogicalPartition) → initOf l ls ++ lastOf l ls ∷ n ∷ [] ≡ (l ∷ ls) ++ n ∷ []
-appended l ls n = sym (append-assoc (initOf l ls) (lastOf l ls ∷ []) (n ∷ [])) ∙ ap (λ (k : List LogicalPartition). k ++ n ∷ []) (init-last l ls)
+appended : (l : LogicalPartition) (ls : List LogicalPartition) (n : LogicalPartition) → initOf l ls ++ lastLogical l ls ∷ n ∷ [] ≡ (l ∷ ls) ++ n ∷ []
+appended l ls n = sym (append-assoc (initOf l ls) (lastLogical l ls ∷ []) (n ∷ [])) ∙ ap (λ (k : List LogicalPartition). k ++ n ∷ []) (init-last l ls)
 
 -- a first one that stands in the first place already
 moved-same : (e : MBRPartitionEntry) (l : LogicalPartition) → at l ≡ e .«starting_lba» → linkIn l ≡ firstLink e → moved e l ≡ l
@@ -58,11 +58,11 @@ moved-same e l p q = λ i. record {
   kept = l .kept;
 }
 
-pub first-same : (e : MBRPartitionEntry) (l : LogicalPartition) (ls : List LogicalPartition) → Heads e (l ∷ ls) → (ms : List LogicalPartition) → firstPlace e (l ∷ ms) ≡ l ∷ ms
-unfolding firstPlace
+pub first-same : (e : MBRPartitionEntry) (l : LogicalPartition) (ls : List LogicalPartition) → Heads e (l ∷ ls) → (ms : List LogicalPartition) → firstInPlace e (l ∷ ms) ≡ l ∷ ms
+unfolding firstInPlace
 first-same e l ls h ms = ap (λ (x : LogicalPartition). x ∷ ms) (moved-same e l (h .0) (h .1))
 
-heads-of : (d : Disk) (t : Contents) (e : MBRPartitionEntry) (l : LogicalPartition) (ls : List LogicalPartition) → Shows d t → extendedIn t ≡ some e → t .logicals ≡ l ∷ ls → Heads e (l ∷ ls)
+heads-of : (d : Disk) (t : Contents) (e : MBRPartitionEntry) (l : LogicalPartition) (ls : List LogicalPartition) → Shows d t → extendedEntry t ≡ some e → t .logicals ≡ l ∷ ls → Heads e (l ∷ ls)
 heads-of d t e l ls r x z =
     let h : Holds (seen d) (some e) (l ∷ ls) = rw z at (rw x at (r .holds)) in
     holds-heads (seen d) e l ls h
@@ -122,22 +122,22 @@ module _ (d : Disk) (t : Contents) (whole : Whole d) (small : t .size < 2 ^ 32) 
         Safe d t
         (record {
           stores = pushStores e ls (newLogical (laterThan (length ls)) q);
-          result = relist t (firstPlace e (pushed q ls));
+          result = relist t (firstInPlace e (pushed q ls));
         })
 
     later-true : (l : LogicalPartition) (ls : List LogicalPartition) → laterThan (length (l ∷ ls)) ≡ true
     later-true l ls = lt-ltb 0 (length (l ∷ ls)) (omega arith)
 
-    into-empty : (e : MBRPartitionEntry) → extendedIn t ≡ some e → t .logicals ≡ [] → AllHold (pushChecks q (some e) 0) → placeOf q + sizeOf q ≤ endOf e → Pushed e []
-    unfolding pushStores pushed firstPlace
+    into-empty : (e : MBRPartitionEntry) → extendedEntry t ≡ some e → t .logicals ≡ [] → AllHold (pushChecks q (some e) 0) → placeOf q + sizeOf q ≤ endOf e → Pushed e []
+    unfolding pushStores pushed firstInPlace
     into-empty e x z h high =
         let f : Fits q e = fits-of q e 0 h a high in
         let o : NewOk false q (newLogical false q) = new-ok false q asked (geometry-hold q e 0 h) in
         push-first-safe d t e (newLogical false q) small now r s x z (omega (arith, o .place, f .low)) (new-good false q e (newLogical false q) asked f o)
         (new-writable false q e (newLogical false q) asked f o)
 
-    into-chain : (e : MBRPartitionEntry) (l : LogicalPartition) (ls : List LogicalPartition) → extendedIn t ≡ some e → t .logicals ≡ l ∷ ls
-        → AllHold (pushChecks q (some e) (length (l ∷ ls))) → placeOf q + sizeOf q ≤ endOf e → end (lastOf l ls) ≤ placeOf q → Pushed e (l ∷ ls)
+    into-chain : (e : MBRPartitionEntry) (l : LogicalPartition) (ls : List LogicalPartition) → extendedEntry t ≡ some e → t .logicals ≡ l ∷ ls
+        → AllHold (pushChecks q (some e) (length (l ∷ ls))) → placeOf q + sizeOf q ≤ endOf e → end (lastLogical l ls) ≤ placeOf q → Pushed e (l ∷ ls)
     unfolding pushStores pushed
     into-chain e l ls x z h high b =
         let n : ℕ = length (l ∷ ls) in
@@ -145,8 +145,8 @@ module _ (d : Disk) (t : Contents) (whole : Whole d) (small : t .size < 2 ^ 32) 
         let f : Fits q e = fits-of q e n h a high in
         let g : AllHold (geometryChecks true q) = rw (later-true l ls) at (geometry-hold q e n h) in
         let o : NewOk true q new = new-ok true q asked g in
-        let w : t .logicals ≡ initOf l ls ++ lastOf l ls ∷ [] = z ∙ sym (init-last l ls) in
-        let m : Room e (initOf l ls) (lastOf l ls) [] new = record {
+        let w : t .logicals ≡ initOf l ls ++ lastLogical l ls ∷ [] = z ∙ sym (init-last l ls) in
+        let m : Room e (initOf l ls) (lastLogical l ls) [] new = record {
           room = omega (arith, o .place);
           good = new-good true q e new asked f o;
           link = new-span q e new asked f o;
@@ -154,18 +154,18 @@ module _ (d : Disk) (t : Contents) (whole : Whole d) (small : t .size < 2 ^ 32) 
           linkable = new-linkable q e new asked f o;
           few = rw (appended l ls new) (omega (arith, few-hold q e n h, length-append (l ∷ ls) (new ∷ [])));
         } in
-        let safe = push-safe d t e (initOf l ls) (lastOf l ls) [] new small now r s x (split d t e (initOf l ls) (lastOf l ls) [] whole r s x w) w m in
-        let same : initOf l ls ++ lastOf l ls ∷ new ∷ [] ≡ firstPlace e ((l ∷ ls) ++ new ∷ []) =
+        let safe = push-safe d t e (initOf l ls) (lastLogical l ls) [] new small now r s x (split d t e (initOf l ls) (lastLogical l ls) [] whole r s x w) w m in
+        let same : initOf l ls ++ lastLogical l ls ∷ new ∷ [] ≡ firstInPlace e ((l ∷ ls) ++ new ∷ []) =
         appended l ls new ∙ sym (first-same e l ls (heads-of d t e l ls r x z) (ls ++ new ∷ [])) in
         rw (later-true l ls)
-        (subst (λ (ns : List LogicalPartition). Safe d t (record { stores = write e new none ∷ write e (lastOf l ls) (some new) ∷ []; result = relist t ns })) same safe)
+        (subst (λ (ns : List LogicalPartition). Safe d t (record { stores = write e new none ∷ write e (lastLogical l ls) (some new) ∷ []; result = relist t ns })) same safe)
 
-    into : (o : Option MBRPartitionEntry) → extendedIn t ≡ o → (ls : List LogicalPartition) → t .logicals ≡ ls → AllHold (pushChecks q o (length ls))
-        → leb (placeOf q + sizeOf q) (areaEnd o) ≡ true → leb (lastEnd ls) (placeOf q) ≡ true → Pushed (Option·getD o noEntry) ls
-    unfolding areaEnd lastEnd pushChecks
+    into : (o : Option MBRPartitionEntry) → extendedEntry t ≡ o → (ls : List LogicalPartition) → t .logicals ≡ ls → AllHold (pushChecks q o (length ls))
+        → leb (placeOf q + sizeOf q) (areaEnd o) ≡ true → leb (end (lastListed ls)) (placeOf q) ≡ true → Pushed (Option·getD o noEntry) ls
+    unfolding areaEnd lastListed pushChecks
     into none x ls z h c b = let w : _≡_ {A = ℕ} 0 1 = cc (h .0) in absurd (omega arith)
     into (some e) x [] z h c b = into-empty e x z h (leb-true (placeOf q + sizeOf q) (endOf e) c)
-    into (some e) x (l ∷ ls) z h c b = into-chain e l ls x z h (leb-true (placeOf q + sizeOf q) (endOf e) c) (leb-true (end (lastOf l ls)) (placeOf q) b)
+    into (some e) x (l ∷ ls) z h c b = into-chain e l ls x z h (leb-true (placeOf q + sizeOf q) (endOf e) c) (leb-true (end (lastLogical l ls)) (placeOf q) b)
 
   -- removal
   Removed : MBRPartitionEntry → List LogicalPartition → Store → List LogicalPartition → Type 0
@@ -175,7 +175,7 @@ module _ (d : Disk) (t : Contents) (whole : Whole d) (small : t .size < 2 ^ 32) 
   unfolding leftOut
   left-suc y ms i = rw (suc-add i 1)
 
-  skip-safe : (e : MBRPartitionEntry) → extendedIn t ≡ some e → (ls : List LogicalPartition) (l : LogicalPartition) (rest : List LogicalPartition) (i : ℕ) → i < length rest
+  skip-safe : (e : MBRPartitionEntry) → extendedEntry t ≡ some e → (ls : List LogicalPartition) (l : LogicalPartition) (rest : List LogicalPartition) (i : ℕ) → i < length rest
       → t .logicals ≡ ls ++ l ∷ rest → Removed e ls (skipStore e l rest i) (l ∷ leftOut rest i)
   unfolding Removed skipStore leftOut
   skip-safe e x ls l [] i h q = absurd (omega arith)
@@ -189,20 +189,20 @@ module _ (d : Disk) (t : Contents) (whole : Whole d) (small : t .size < 2 ^ 32) 
       append-assoc ls (l ∷ []) (y ∷ leftOut ms i) ∙ ap (λ (z : List LogicalPartition). ls ++ l ∷ z) (sym (left-suc y ms i)) in
       subst (λ (z : List LogicalPartition). Safe d t (record { stores = skipStore e y ms i ∷ []; result = relist t z })) same k
 
-  drop-safe : (e : MBRPartitionEntry) → extendedIn t ≡ some e → (ls : List LogicalPartition) (i : ℕ) → i < length ls → t .logicals ≡ ls
-      → Safe d t (record { stores = removeStore e ls i ∷ []; result = relist t (firstPlace e (leftOut ls i)) })
-  unfolding removeStore leftOut firstPlace Removed
+  drop-safe : (e : MBRPartitionEntry) → extendedEntry t ≡ some e → (ls : List LogicalPartition) (i : ℕ) → i < length ls → t .logicals ≡ ls
+      → Safe d t (record { stores = removeStore e ls i ∷ []; result = relist t (firstInPlace e (leftOut ls i)) })
+  unfolding removeStore leftOut firstInPlace Removed
   drop-safe e x [] i h q = absurd (omega arith)
   drop-safe e x (y ∷ []) zero h q = remove-only-safe d t e y small now r s x q (split d t e [] y [] whole r s x q)
   drop-safe e x (y ∷ m ∷ ms) zero h q =
       remove-first-safe d t e y m ms small now r s x q (split d t e [] y (m ∷ ms) whole r s x q) (split d t e (y ∷ []) m ms whole r s x q)
   drop-safe e x (l ∷ ls) (suc i) h q =
-      let same : l ∷ leftOut ls i ≡ firstPlace e (leftOut (l ∷ ls) (suc i)) =
-      sym (first-same e l ls (heads-of d t e l ls r x q) (leftOut ls i)) ∙ ap (firstPlace e) (sym (left-suc l ls i)) in
+      let same : l ∷ leftOut ls i ≡ firstInPlace e (leftOut (l ∷ ls) (suc i)) =
+      sym (first-same e l ls (heads-of d t e l ls r x q) (leftOut ls i)) ∙ ap (firstInPlace e) (sym (left-suc l ls i)) in
       subst (λ (z : List LogicalPartition). Safe d t (record { stores = skipStore e l ls i ∷ []; result = relist t z })) same (skip-safe e x [] l ls i (omega arith) q)
 
-  out-of : (o : Option MBRPartitionEntry) → extendedIn t ≡ o → (ls : List LogicalPartition) → t .logicals ≡ ls → (i : ℕ) → i < length ls
-      → Safe d t (record { stores = removeStore (Option·getD o noEntry) ls i ∷ []; result = relist t (firstPlace (Option·getD o noEntry) (leftOut ls i)) })
+  out-of : (o : Option MBRPartitionEntry) → extendedEntry t ≡ o → (ls : List LogicalPartition) → t .logicals ≡ ls → (i : ℕ) → i < length ls
+      → Safe d t (record { stores = removeStore (Option·getD o noEntry) ls i ∷ []; result = relist t (firstInPlace (Option·getD o noEntry) (leftOut ls i)) })
   out-of none x [] z i h = absurd (omega arith)
   out-of none x (l ∷ ls) z i h = absurd (rw z at (rw x at (r .holds)))
   out-of (some e) x ls z i h = drop-safe e x ls i h z
@@ -216,14 +216,14 @@ module _ (d : Disk) (t : Contents) (whole : Whole d) (small : t .size < 2 ^ 32) 
   unfolding pushRefusals pushChange spaceChecks
   push-accepted room q asked h =
       let asks : List Check = (20 ! soundb t) ∷ askChecks q in
-      let pushes : List Check = pushChecks q (extendedIn t) (length (t .logicals)) in
+      let pushes : List Check = pushChecks q (extendedEntry t) (length (t .logicals)) in
       let room′ : List Check = (19 ! leb roomNeeded room) ∷ [] in
       let upToSpace : AllHold (asks ++ pushes ++ spaceChecks q t) = hold-left (asks ++ pushes ++ spaceChecks q t) room′ h in
       let space : AllHold (spaceChecks q t) = hold-right (asks ++ pushes) (spaceChecks q t) upToSpace in
       let upToPush : AllHold (asks ++ pushes) = hold-left (asks ++ pushes) (spaceChecks q t) upToSpace in
       let ask : AllHold asks = hold-left asks pushes upToPush in
-      into d t whole small now shows (is-sound t .to (ask .0)) q asked (ask .1) (extendedIn t) refl (t .logicals) refl (hold-right asks pushes upToPush) (space .0) (space .1 .0)
+      into d t whole small now shows (is-sound t .to (ask .0)) q asked (ask .1) (extendedEntry t) refl (t .logicals) refl (hold-right asks pushes upToPush) (space .0) (space .1 .0)
 
   pub remove-accepted : (room n : ℕ) → AllHold (removeRefusals room n t) → Safe d t (removeChange n t)
   unfolding removeRefusals removeChange
-  remove-accepted room n h = out-of d t whole small now shows (is-sound t .to (h .0)) (extendedIn t) refl (t .logicals) refl (n - 5) (ltb-true (n - 5) (length (t .logicals)) (h .1 .1 .0))
+  remove-accepted room n h = out-of d t whole small now shows (is-sound t .to (h .0)) (extendedEntry t) refl (t .logicals) refl (n - 5) (ltb-true (n - 5) (length (t .logicals)) (h .1 .1 .0))

@@ -8,11 +8,11 @@ use native.Mathlib.Omega.{arith}
 use borrow.Author.Tests.{eq-eqb}
 use Rattle.base.specs.Pick.{pick}
 use Rattle.base.specs.Said.{gives}
-use Rattle.entry.specs.declared.MBRPartitionEntry.{MBRPartitionEntry}
-use Rattle.entry.specs.Entry.{used, extended}
-use Rattle.mbr.specs.Mbr.{extendedOf}
+use Rattle.record_entry.specs.declared.MBRPartitionEntry.{MBRPartitionEntry}
+use Rattle.record_entry.specs.Entry.{used, extended}
+use Rattle.record_mbr.specs.Mbr.{extendedOf}
 use Rattle.table.specs.Table.{greatestAlign}
-use Rattle.align.specs.Align.{usedStarts, dividesAll, largest, divisorTo, orSeven, alignment}
+use Rattle.read_align.specs.Align.{usedStarts, dividesAll, largestStart, divisorTo, orSeven, alignment}
 use Rattle.sound.proofs.Good.{extended-used}
 
 -- an alignment is found
@@ -44,27 +44,27 @@ found-to : (n : ℕ) (ss : List ℕ) → 1 ≤ n → Found (divisorTo n ss)
 found-to zero ss h = absurd (omega arith)
 found-to (suc n) ss h = divisor-found n ss
 
-pub aligned-of : (ss : List ℕ) → 1 ≤ largest ss → Aligned ss
-unfolding alignment largest
+pub aligned-of : (ss : List ℕ) → 1 ≤ largestStart ss → Aligned ss
+unfolding alignment largestStart
 aligned-of [] h = absurd (omega arith)
 aligned-of (s ∷ ss) h =
-    let n : 1 ≤ min greatestAlign (max s (largest ss)) = omega arith in
-    let f : Found (divisorTo (min greatestAlign (max s (largest ss))) (s ∷ ss)) = found-to (min greatestAlign (max s (largest ss))) (s ∷ ss) n in
+    let n : 1 ≤ min greatestAlign (max s (largestStart ss)) = omega arith in
+    let f : Found (divisorTo (min greatestAlign (max s (largestStart ss))) (s ∷ ss)) = found-to (min greatestAlign (max s (largestStart ss))) (s ∷ ss) n in
     record { align = f .value; found = ap orSeven (f .is) }
 
 -- the extended entry's start is a used one
-large-starts : (e : MBRPartitionEntry) (ps qs : List MBRPartitionEntry) → extendedOf ps ≡ some e → e .«starting_lba» ≤ largest (usedStarts (ps ++ qs))
-unfolding extendedOf largest usedStarts
+large-starts : (e : MBRPartitionEntry) (ps qs : List MBRPartitionEntry) → extendedOf ps ≡ some e → e .«starting_lba» ≤ largestStart (usedStarts (ps ++ qs))
+unfolding extendedOf largestStart usedStarts
 large-starts e [] qs h = let w : _≡_ {A = ℕ} 0 1 = cc in absurd (omega arith)
 large-starts e (p ∷ ps) qs h = go (large-starts e ps qs) (extended (p .sys)) refl h
   where
-    other : e .«starting_lba» ≤ largest (usedStarts (ps ++ qs)) → (b : Bool)
-        → e .«starting_lba» ≤ largest (pick b (p .«starting_lba» ∷ usedStarts (ps ++ qs)) (usedStarts (ps ++ qs)))
+    other : e .«starting_lba» ≤ largestStart (usedStarts (ps ++ qs)) → (b : Bool)
+        → e .«starting_lba» ≤ largestStart (pick b (p .«starting_lba» ∷ usedStarts (ps ++ qs)) (usedStarts (ps ++ qs)))
     other z true = omega arith
     other z false = z
 
-    go : (extendedOf ps ≡ some e → e .«starting_lba» ≤ largest (usedStarts (ps ++ qs))) → (x : Bool) → extended (p .sys) ≡ x → pick x (some p) (extendedOf ps) ≡ some e
-        → e .«starting_lba» ≤ largest (pick (used (p .sys)) (p .«starting_lba» ∷ usedStarts (ps ++ qs)) (usedStarts (ps ++ qs)))
+    go : (extendedOf ps ≡ some e → e .«starting_lba» ≤ largestStart (usedStarts (ps ++ qs))) → (x : Bool) → extended (p .sys) ≡ x → pick x (some p) (extendedOf ps) ≡ some e
+        → e .«starting_lba» ≤ largestStart (pick (used (p .sys)) (p .«starting_lba» ∷ usedStarts (ps ++ qs)) (usedStarts (ps ++ qs)))
     go ih true q c =
         let pe : p ≡ e = cc in
         let s : p .«starting_lba» ≡ e .«starting_lba» = ap (λ (x : MBRPartitionEntry). x .«starting_lba») pe in

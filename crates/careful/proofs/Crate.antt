@@ -1,48 +1,40 @@
 -- Where a careful change is accepted, the crate's own push or removal is, and its table under the first-place rule is the table after. Assumes nothing.
 use mathlib.Core.Path.{_≡_, refl, ap, sym, _∙_}
-use mathlib.Core.Option.{Option, none, some}
+use mathlib.Core.Option.{Option}
 use mathlib.Core.Bool.{true}
 use mathlib.Core.List.{List, [], _∷_, _++_}
 use Prim.Native.Nat.{ℕ, _+_, _-_, _≤_, _<_}
 use native.Mathlib.Omega.{arith}
 use lib.Dec.{ltb, leb}
-use lib.ListN.{length, take, replicate, length-append, length-replicate}
-use lib.Seq.{take-append-seam}
+use lib.ListN.{length}
 use borrow.Author.Tests.{ltb-true, le-leb}
 use Rattle.base.specs.Said.{gives, refuses}
 use Rattle.base.specs.Checks.{Check, _!_, AllHold}
 use Rattle.base.proofs.Checks.{hold-left, hold-right, all-hold, checked-none}
-use Rattle.entry.specs.declared.MBRPartitionEntry.{MBRPartitionEntry}
+use Rattle.chain.proofs.Slots.{holds-few}
+use Rattle.table.proofs.Laws.{slots-length, slots-taken}
+use Rattle.record_entry.specs.declared.MBRPartitionEntry.{MBRPartitionEntry}
 use Rattle.extract.specs.Disk.{Disk}
 use Rattle.table.specs.declared.LogicalPartition.{LogicalPartition}
 use Rattle.table.specs.declared.MBR.{MBR}
-use Rattle.table.specs.Table.{most, logicals, emptySlot, slots}
-use Rattle.chain.specs.Facts.{View, Holds, seen}
-use Rattle.read.specs.Read.{Table, tableOf}
-use Rattle.request.specs.declared.Request.{Request}
-use Rattle.push.specs.Push.{isSome, orNone, laterThan, roundChecks, placeChecks, endChecks, geometryChecks, pushChecks, pushed, tableChecks, pushedTo, pushSays, pushTable}
-use Rattle.remove.specs.Remove.{removeChecks, without, removedTable}
-use Rattle.less.proofs.Laws.{without-logicals}
-use Rattle.push.proofs.Laws.{logicals-pushed}
-use Rattle.sound.specs.Sound.{Contents, contentsOf, extendedIn, soundb}
-use Rattle.careful.specs.Stores.{firstPlace, leftOut}
+use Rattle.table.specs.Table.{most, logicals}
+use Rattle.chain.specs.Facts.{seen}
+use Rattle.read_table.specs.Read.{Table, tableOf}
+use Rattle.table_push.specs.declared.request.Request.{Request}
+use Rattle.table_push.specs.Push.{isSome, orNone, laterThan, roundChecks, placeChecks, endChecks, geometryChecks, pushChecks, pushed, tablePushChecks, pushedTo, pushSays, pushTable}
+use Rattle.table_remove.specs.Remove.{removeChecks, without, removedTable}
+use Rattle.table_remove.proofs.without.Laws.{without-logicals}
+use Rattle.table_push.proofs.Laws.{logicals-pushed}
+use Rattle.sound.specs.Sound.{Contents, contentsOf, extendedEntry, soundb}
+use Rattle.careful.specs.Stores.{firstInPlace, leftOut}
 use Rattle.careful.specs.Careful.{contents, relist, areaOf, roomNeeded, askChecks, spaceChecks, pushRefusals, pushChange, removeRefusals, removeChange, asAsked, inFirstPlace}
 use Rattle.careful.specs.Demand3.{Pushes, Removes}
-use Rattle.careful.proofs.Shown.{Shows, holds-few}
+use Rattle.careful.proofs.Shown.{Shows}
 
-few-of : (v : ℕ → View) (o : Option MBRPartitionEntry) (ls : List LogicalPartition) → Holds v o ls → length ls ≤ most
-few-of v none [] h = omega arith
-few-of v none (l ∷ ls) h = absurd h
-few-of v (some e) ls h = holds-few v e ls h
-
--- the array of a table that was read
-slots-length : (ls : List LogicalPartition) → length ls ≤ most → length (slots ls) ≡ most
-unfolding slots
-slots-length ls h = length-append ls (replicate (most - length ls) emptySlot) ∙ rw (length-replicate (most - length ls) emptySlot) (omega arith)
-
-pub slots-front : (ls : List LogicalPartition) → take (length ls) (slots ls) ≡ ls
-unfolding slots
-slots-front ls = take-append-seam ls (replicate (most - length ls) emptySlot)
+-- what a table that was read holds
+pub contents-of : (t : Table) → contentsOf (tableOf t) ≡ contents t
+unfolding tableOf
+contents-of t = λ i. record { width = t .width; size = t .size; header = t .header; logicals = slots-taken (t .logicals) i }
 
 -- push's last refusal
 last-hold : (q : Request) (o : Option MBRPartitionEntry) (n : ℕ) → AllHold (pushChecks q o n) → n < most
@@ -51,7 +43,7 @@ last-hold q o n h =
     let cs : List Check = (8 ! isSome o) ∷ roundChecks q ++ placeChecks q (orNone o) ++ endChecks (laterThan n) q (orNone o) ++ geometryChecks (laterThan n) q in
     ltb-true n most (hold-right cs ((6 ! ltb n most) ∷ []) h .0)
 
-placed-list : (t : Contents) (ls : List LogicalPartition) → inFirstPlace (relist t ls) ≡ relist t (firstPlace (areaOf t) ls)
+placed-list : (t : Contents) (ls : List LogicalPartition) → inFirstPlace (relist t ls) ≡ relist t (firstInPlace (areaOf t) ls)
 unfolding inFirstPlace relist
 placed-list t ls = refl
 
@@ -60,38 +52,38 @@ module _ (d : Disk) (t : Table) (r : Shows d (contents t)) where
   ls = t .logicals
 
   few : length ls ≤ most
-  few = few-of (seen d) (extendedIn (contents t)) ls (r .holds)
+  few = holds-few (seen d) (extendedEntry (contents t)) ls (r .holds)
 
-  module _ (q : Request) (h : AllHold (pushChecks q (extendedIn (contents t)) (length ls))) where
+  module _ (q : Request) (h : AllHold (pushChecks q (extendedEntry (contents t)) (length ls))) where
     abbrev given : MBR
     given = asAsked (tableOf t) q
 
-    own-checks : AllHold (tableChecks given q)
-    unfolding tableChecks asAsked tableOf
+    own-checks : AllHold (tablePushChecks given q)
+    unfolding tablePushChecks asAsked tableOf
     own-checks = (le-leb (length ls) most few, h)
 
     push-number : pushSays given (q .sys) (q .start) (q .sectors) ≡ gives (length ls + 5)
     unfolding pushSays asAsked tableOf
-    push-number = checked-none (tableChecks given q) refuses (gives (length ls + 5)) (all-hold (tableChecks given q) own-checks)
+    push-number = checked-none (tablePushChecks given q) refuses (gives (length ls + 5)) (all-hold (tablePushChecks given q) own-checks)
 
     push-accepts : pushTable given (q .sys) (q .start) (q .sectors) ≡ pushedTo given q
     unfolding pushTable asAsked
-    push-accepts = checked-none (tableChecks given q) (λ k. given) (pushedTo given q) (all-hold (tableChecks given q) own-checks)
+    push-accepts = checked-none (tablePushChecks given q) (λ k. given) (pushedTo given q) (all-hold (tablePushChecks given q) own-checks)
 
     push-contents : contentsOf (pushedTo given q) ≡ relist (contents t) (pushed q ls)
     unfolding asAsked tableOf relist pushedTo
     push-contents =
-        let n : length ls < most = last-hold q (extendedIn (contents t)) (length ls) h in
+        let n : length ls < most = last-hold q (extendedEntry (contents t)) (length ls) h in
         let e : logicals (pushedTo given q) ≡ pushed q ls =
-        logicals-pushed given q (omega (arith, slots-length ls few)) ∙ ap (pushed q) (slots-front ls) in
+        logicals-pushed given q (omega (arith, slots-length ls few)) ∙ ap (pushed q) (slots-taken ls) in
         λ i. record { width = t .width; size = t .size; header = t .header; logicals = e i }
 
   module _ (room : ℕ) (q : Request) (h : AllHold (pushRefusals room q (contents t))) where
-    pushes-hold : AllHold (pushChecks q (extendedIn (contents t)) (length ls))
+    pushes-hold : AllHold (pushChecks q (extendedEntry (contents t)) (length ls))
     unfolding pushRefusals
     pushes-hold =
         let asks : List Check = (20 ! soundb (contents t)) ∷ askChecks q in
-        let pushes : List Check = pushChecks q (extendedIn (contents t)) (length ls) in
+        let pushes : List Check = pushChecks q (extendedEntry (contents t)) (length ls) in
         let behind : List Check = (19 ! leb roomNeeded room) ∷ [] in
         hold-right asks pushes (hold-left (asks ++ pushes) (spaceChecks q (contents t)) (hold-left (asks ++ pushes ++ spaceChecks q (contents t)) behind h))
 
@@ -118,7 +110,7 @@ module _ (d : Disk) (t : Table) (r : Shows d (contents t)) where
     unfolding tableOf relist leftOut
     remove-contents =
         let e : logicals (without (tableOf t) (n - 5)) ≡ leftOut ls (n - 5) =
-        without-logicals (tableOf t) (n - 5) (ltb-true (n - 5) (length ls) (there .1)) (omega (arith, slots-length ls few, few)) ∙ ap (λ (z : List LogicalPartition). leftOut z (n - 5)) (slots-front ls) in
+        without-logicals (tableOf t) (n - 5) (ltb-true (n - 5) (length ls) (there .1)) (omega (arith, slots-length ls few, few)) ∙ ap (λ (z : List LogicalPartition). leftOut z (n - 5)) (slots-taken ls) in
         λ i. record { width = t .width; size = t .size; header = t .header; logicals = e i }
 
     pub remove-own : Removes n t (removedTable (tableOf t) n)

@@ -13,25 +13,26 @@ use Rattle.base.specs.Said.{Said, gives, refuses, andThen}
 use Rattle.base.specs.Checks.{Check, first-fail, AllHold, FirstFail}
 use Rattle.base.proofs.Bytes.{length-bytesOf}
 use Rattle.base.proofs.Checks.{all-hold, checked-some, checked-none, none-fails, answer-gives}
+use Rattle.base.specs.All.{All}
 use Rattle.extract.specs.Disk.{Disk, Store}
 use Rattle.extract.specs.declared.Extract.{Extract}
 use Rattle.extract.specs.Extract.{Good, extractChecks, diskOf}
 use Rattle.extract.specs.Answers.{headerOf, checkSays}
 use Rattle.extract.proofs.Disk.{size-below, sector-record}
 use Rattle.table.specs.declared.MBR.{MBR}
-use Rattle.read.specs.Read.{Table, read, readSays, tableOf}
-use Rattle.read.specs.Facts.{looked}
-use Rattle.read.specs.Wanted.{firstAbsent, From}
-use Rattle.read.specs.Collect.{Collected}
-use Rattle.read.proofs.Collect.{collected-reads}
-use Rattle.request.specs.declared.Request.{Request}
-use Rattle.push.specs.Push.{pushTable}
-use Rattle.remove.specs.Remove.{removedTable}
-use Rattle.sound.specs.Is.{All}
+use Rattle.read_table.specs.Read.{Table, read, readSays, tableOf}
+use Rattle.read_table.specs.Facts.{looked}
+use Rattle.read_table.specs.Wanted.{firstAbsent, From}
+use Rattle.read_table.specs.Collect.{Collected}
+use Rattle.read_table.proofs.Collect.{collected-reads}
+use Rattle.table_push.specs.declared.request.Request.{Request}
+use Rattle.table_push.specs.Push.{pushTable}
+use Rattle.table_remove.specs.Remove.{removedTable}
 use Rattle.sound.specs.Sound.{Contents, contentsOf}
 use Rattle.careful.specs.Careful.{contents, Change, pushRefusals, pushChange, removeRefusals, removeChange, asAsked, inFirstPlace, changing, carefulPushSays, carefulRemoveSays}
-use Rattle.careful.specs.Output.{storeBytes, storesBytes, storesIn, outAfter, countOf, counted}
+use Rattle.careful.specs.Output.{storeBytes, storesBytes, storesIn, outAfter, countOf, storesCounted}
 use Rattle.careful.specs.Demand3.{Whole, contentsOn, Safe, Refused, Accepted, Demand3, Pushes, Removes, PushDemand3, RemoveDemand3}
+use Rattle.careful_stores.specs.Stored.{storeLength}
 use Rattle.careful.proofs.Shown.{Shows, read→shows, read→contents}
 use Rattle.careful.proofs.New.{Asked}
 use Rattle.careful.proofs.Accepted.{push-accepted, remove-accepted}
@@ -65,21 +66,21 @@ pub collected-contents : (d : Disk) (x z : List ℕ) (n : ℕ) → Good x → Fr
     → (t : Table) → readSays z ≡ gives t → contentsOn d ≡ gives (contents t)
 collected-contents d x z n g f c h b t r = read→contents d t (sym (collected-reads d x z n g f c h) ∙ good-read z b t r .1)
 
-stores-long : (ss : List Store) → All (λ s. Record (s .bytes)) ss → length (storesBytes ss) ≡ length ss * 516
+stores-long : (ss : List Store) → All (λ s. Record (s .bytes)) ss → length (storesBytes ss) ≡ length ss * storeLength
 unfolding storesBytes storeBytes
 stores-long [] r = refl
 stores-long (s ∷ ss) r =
-    let a : length (bytesOf little 4 (s .lba) ++ s .bytes) ≡ 516 = length-append (bytesOf little 4 (s .lba)) (s .bytes) ∙ rw (length-bytesOf little 4 (s .lba), r .0 .long) in
-    let b : length (storesBytes ss) ≡ length ss * 516 = stores-long ss (r .1) in
+    let a : length (bytesOf little 4 (s .lba) ++ s .bytes) ≡ storeLength = length-append (bytesOf little 4 (s .lba)) (s .bytes) ∙ rw (length-bytesOf little 4 (s .lba), r .0 .long) in
+    let b : length (storesBytes ss) ≡ length ss * storeLength = stores-long ss (r .1) in
     length-append (bytesOf little 4 (s .lba) ++ s .bytes) (storesBytes ss) ∙ omega (arith, a, b)
 
 -- behind the stores the lent output is as before
-rest-kept : (out : List ℕ) (c : Change) → All (λ s. Record (s .bytes)) (c .stores) → drop (countOf c * 516) (outAfter out (gives c)) ≡ drop (countOf c * 516) out
+rest-kept : (out : List ℕ) (c : Change) → All (λ s. Record (s .bytes)) (c .stores) → drop (countOf c * storeLength) (outAfter out (gives c)) ≡ drop (countOf c * storeLength) out
 unfolding outAfter put
 rest-kept out c r =
-    let n : length (storesBytes (c .stores)) ≡ countOf c * 516 = stores-long (c .stores) r in
+    let n : length (storesBytes (c .stores)) ≡ countOf c * storeLength = stores-long (c .stores) r in
     let z : 0 + length (storesBytes (c .stores)) ≡ length (storesBytes (c .stores)) = omega arith in
-    drop-at (storesBytes (c .stores)) (drop (0 + length (storesBytes (c .stores))) out) (countOf c * 516) n ∙ ap (λ (k : ℕ). drop k out) (z ∙ n)
+    drop-at (storesBytes (c .stores)) (drop (0 + length (storesBytes (c .stores))) out) (countOf c * storeLength) n ∙ ap (λ (k : ℕ). drop k out) (z ∙ n)
 
 -- a call on lent bytes that says and leaves what the change says
 module _ (x : List ℕ) (b : Bytes x) (refusals : Contents → List Check) (change : Contents → Change) (crate : Table → MBR → Type 0) (own : Table → MBR)
@@ -87,9 +88,9 @@ module _ (x : List ℕ) (b : Bytes x) (refusals : Contents → List Check) (chan
     (same : (d : Disk) (t : Table) → Shows d (contents t) → AllHold (refusals (contents t)) → change (contents t) .result ≡ inFirstPlace (contentsOf (own t)))
     (safe : (d : Disk) (t : Contents) → Whole d → t .size < 2 ^ 32 → contentsOn d ≡ gives t → AllHold (refusals t) → Safe d t (change t))
     (out : List ℕ) (said : Said ℕ) (left : List ℕ)
-    (says : said ≡ counted (changing refusals change (readSays x))) (leaves : left ≡ outAfter out (changing refusals change (readSays x))) where
-  told : (s : Said Change) → changing refusals change (readSays x) ≡ s → (said ≡ counted s) × (left ≡ outAfter out s)
-  told s e = (says ∙ ap counted e, leaves ∙ ap (outAfter out) e)
+    (says : said ≡ storesCounted (changing refusals change (readSays x))) (leaves : left ≡ outAfter out (changing refusals change (readSays x))) where
+  told : (s : Said Change) → changing refusals change (readSays x) ≡ s → (said ≡ storesCounted s) × (left ≡ outAfter out s)
+  told s e = (says ∙ ap storesCounted e, leaves ∙ ap (outAfter out) e)
 
   refused-with : (k : ℕ) → changing refusals change (readSays x) ≡ refuses k → Refused out said left k
   unfolding outAfter
@@ -113,7 +114,7 @@ module _ (x : List ℕ) (b : Bytes x) (refusals : Contents → List Check) (chan
         same = accepts (diskOf x) t shows h;
         number = countOf c;
         counted = told (gives c) e .0;
-        rest = ap (drop (countOf c * 516)) l ∙ rest-kept out c (here .records);
+        rest = ap (drop (countOf c * storeLength)) l ∙ rest-kept out c (here .records);
         safe = λ d w reads.
             subst (λ (k : Change). Safe d (contents t) k) (λ i. record { stores = sym back i; result = result i }) (safe d (contents t) w small reads h);
       }
@@ -129,7 +130,7 @@ module _ (x : List ℕ) (b : Bytes x) (refusals : Contents → List Check) (chan
 
 -- the two changes
 module _ (x : List ℕ) (b : Bytes x) (out : List ℕ) (said : Said ℕ) (left : List ℕ) where
-  pub push-demand3 : (q : Request) → Asked q → said ≡ counted (carefulPushSays x (length out) q) → left ≡ outAfter out (carefulPushSays x (length out) q)
+  pub push-demand3 : (q : Request) → Asked q → said ≡ storesCounted (carefulPushSays x (length out) q) → left ≡ outAfter out (carefulPushSays x (length out) q)
       → PushDemand3 q x out said left
   unfolding carefulPushSays
   push-demand3 q asked says leaves =
@@ -139,7 +140,7 @@ module _ (x : List ℕ) (b : Bytes x) (out : List ℕ) (said : Said ℕ) (left :
       (λ d t w small r h. push-accepted d t w small r (length out) q asked h)
       out said left says leaves
 
-  pub remove-demand3 : (n : ℕ) → said ≡ counted (carefulRemoveSays x (length out) n) → left ≡ outAfter out (carefulRemoveSays x (length out) n)
+  pub remove-demand3 : (n : ℕ) → said ≡ storesCounted (carefulRemoveSays x (length out) n) → left ≡ outAfter out (carefulRemoveSays x (length out) n)
       → RemoveDemand3 n x out said left
   unfolding carefulRemoveSays
   remove-demand3 n says leaves =

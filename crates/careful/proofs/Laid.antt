@@ -6,12 +6,12 @@ use Prim.Native.Nat.{ℕ, zero, suc, _<_}
 use lib.ListN.{take}
 use Rattle.base.specs.Bytes.{Record}
 use Rattle.base.specs.Said.{gives}
+use Rattle.base.specs.All.{All}
 use Rattle.extract.specs.Disk.{Disk, Store, stored, after}
 use Rattle.extract.specs.Extract.{diskSectors, Good, diskOf}
 use Rattle.extract.proofs.Disk.{size-of, size-stored}
-use Rattle.layover.specs.Layover.{newExtract}
-use Rattle.layover.proofs.Laws.{new-good, new-stored}
-use Rattle.sound.specs.Is.{All}
+use Rattle.extract_lay.specs.Layover.{newExtract}
+use Rattle.extract_lay.proofs.Laws.{new-good, new-stored}
 use Rattle.sound.specs.Sound.{Contents}
 use Rattle.careful.specs.Careful.{Change}
 use Rattle.careful.specs.Demand3.{contentsOn, Safe}

@@ -11,3 +11,4 @@ pub mod Crate
 pub mod Output
 pub mod Demand3
 pub mod Laid
+pub mod Changing

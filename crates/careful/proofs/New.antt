@@ -11,22 +11,22 @@ use borrow.Author.Tests.{leb-true, eqb-false, not-true}
 use Rattle.base.specs.Pick.{pick}
 use Rattle.base.specs.Checks.{Check, AllHold}
 use Rattle.base.proofs.Checks.{hold-left, hold-right}
-use Rattle.chs.specs.declared.CHS.{CHS}
-use Rattle.chs.specs.Chs.{noChs, ChsOk}
-use Rattle.chs.proofs.Small.{head-fits, sector-fits}
-use Rattle.entry.specs.declared.MBRPartitionEntry.{MBRPartitionEntry}
-use Rattle.entry.specs.Entry.{used, extended, endOf}
-use Rattle.ebr.specs.Ebr.{noKept, KeptOk}
-use Rattle.ebr.proofs.Laws.{no-kept-ok}
+use Rattle.record_chs.specs.declared.CHS.{CHS}
+use Rattle.record_chs.specs.Chs.{noChs, ChsOk}
+use Rattle.record_chs.proofs.Small.{head-fits, sector-fits}
+use Rattle.record_entry.specs.declared.MBRPartitionEntry.{MBRPartitionEntry}
+use Rattle.record_entry.specs.Entry.{used, extended, endOf}
+use Rattle.record_ebr.specs.Ebr.{noKept, KeptOk}
+use Rattle.record_ebr.proofs.Laws.{no-kept-ok}
 use Rattle.table.specs.declared.MaybeSectors.the-variants.{Absent, Present}
 use Rattle.table.specs.declared.MaybeChs.{MaybeChs}
 use Rattle.table.specs.declared.MaybeChs.the-variants.{Absent as NoChs, Present as SomeChs}
 use Rattle.table.specs.declared.LogicalPartition.{LogicalPartition}
 use Rattle.chain.specs.Facts.{at, start}
-use Rattle.address.specs.declared.Geometry.{Geometry}
-use Rattle.push.specs.Address.{complete, addressIn, addressChecks, lastChecks, linkChecks, updateChecks, linkAddress, addressed}
-use Rattle.request.specs.declared.Request.{Request}
-use Rattle.push.specs.Push.{placeOf, sizeOf, fresh, newLogical, geometryChecks}
+use Rattle.table_address.specs.declared.Geometry.{Geometry}
+use Rattle.table_address.specs.Address.{complete, addressIn, addressChecks, lastChecks, linkChecks, updateChecks, linkAddress, addressed}
+use Rattle.table_push.specs.declared.request.Request.{Request}
+use Rattle.table_push.specs.Push.{placeOf, sizeOf, fresh, newLogical, geometryChecks}
 use Rattle.sound.specs.Sound.{end, Within, IfThere}
 use Rattle.sound.proofs.Good.{Good, Span}
 use Rattle.careful.proofs.Push.{Writable, Linkable}

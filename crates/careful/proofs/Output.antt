@@ -12,13 +12,14 @@ use Rattle.base.specs.Bytes.{Record, number, bytesOf, little}
 use Rattle.base.specs.Put.{put}
 use Rattle.base.specs.Said.{gives}
 use Rattle.base.proofs.Bytes.{number-bytesOf, length-bytesOf}
+use Rattle.base.specs.All.{All}
 use Rattle.extract.specs.Disk.{Disk, Store, stored, after}
 use Rattle.extract.proofs.Disk.{sector-same, sector-other, size-stored}
-use Rattle.sound.specs.Is.{All}
 use Rattle.sound.specs.Sound.{Contents}
 use Rattle.careful.specs.Careful.{Change}
 use Rattle.careful.specs.Demand3.{Safe, Whole}
 use Rattle.careful.specs.Output.{storeBytes, storesBytes, storesIn, outAfter, countOf}
+use Rattle.careful_stores.specs.Stored.{storeLength}
 
 module _ (s : Store) (rest : List ℕ) (r : Record (s .bytes)) (h : s .lba < 2 ^ 32) where
   abbrev lba : List ℕ
@@ -37,11 +38,11 @@ module _ (s : Store) (rest : List ℕ) (r : Record (s .bytes)) (h : s .lba < 2 ^
   one-bytes : take 512 (drop 4 (storeBytes s ++ rest)) ≡ s .bytes
   one-bytes = ap (take 512) one-drop ∙ take-at (s .bytes) rest 512 (r .long)
 
-  one-rest : drop 516 (storeBytes s ++ rest) ≡ rest
+  one-rest : drop storeLength (storeBytes s ++ rest) ≡ rest
   unfolding storeBytes
   one-rest =
-      let n : length (storeBytes s) ≡ 516 = length-append lba (s .bytes) ∙ rw (length-bytesOf little 4 (s .lba), r .long) in
-      drop-at (storeBytes s) rest 516 n
+      let n : length (storeBytes s) ≡ storeLength = length-append lba (s .bytes) ∙ rw (length-bytesOf little 4 (s .lba), r .long) in
+      drop-at (storeBytes s) rest storeLength n
 
 stores-front : (ss : List Store) (rest : List ℕ) → All (λ s. Record (s .bytes)) ss → All (λ s. s .lba < 2 ^ 32) ss → storesIn (storesBytes ss ++ rest) (length ss) ≡ ss
 unfolding storesBytes storesIn

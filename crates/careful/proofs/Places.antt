@@ -6,10 +6,10 @@ use Prim.Native.Nat.{ℕ, suc, _≤_, _<_}
 use native.Mathlib.Omega.{arith}
 use Rattle.base.specs.Row.{Row}
 use Rattle.base.proofs.Row.{row-zip, row-map}
-use Rattle.entry.specs.Entry.{endOf}
+use Rattle.base.specs.All.{All}
+use Rattle.record_entry.specs.Entry.{endOf}
 use Rattle.table.specs.declared.LogicalPartition.{LogicalPartition}
 use Rattle.chain.specs.Facts.{at, start, Before}
-use Rattle.sound.specs.Is.{All}
 use Rattle.sound.specs.Sound.{end, bound}
 use Rattle.sound.proofs.Good.{Good}
 use Rattle.careful.specs.Demand3.{In}

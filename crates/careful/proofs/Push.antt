@@ -9,22 +9,22 @@ use lib.ListN.{length}
 use Rattle.base.specs.Said.{gives}
 use Rattle.base.specs.Row.{next, Row}
 use Rattle.base.proofs.Row.{row-left, row-right, row-join}
-use Rattle.chs.specs.declared.CHS.{CHS}
-use Rattle.chs.specs.Chs.{ChsOk}
-use Rattle.entry.specs.declared.MBRPartitionEntry.{MBRPartitionEntry}
-use Rattle.entry.specs.Entry.{endOf}
-use Rattle.ebr.specs.Ebr.{KeptOk}
+use Rattle.base.specs.All.{All}
+use Rattle.record_chs.specs.declared.CHS.{CHS}
+use Rattle.record_chs.specs.Chs.{ChsOk}
+use Rattle.record_entry.specs.declared.MBRPartitionEntry.{MBRPartitionEntry}
+use Rattle.record_entry.specs.Entry.{endOf}
+use Rattle.record_ebr.specs.Ebr.{KeptOk}
 use Rattle.extract.specs.Disk.{Disk, Store, stored}
 use Rattle.extract.proofs.Disk.{sector-other, size-stored, width-stored}
 use Rattle.table.specs.declared.MaybeChs.the-variants.{Present as SomeChs}
 use Rattle.table.specs.declared.LogicalPartition.{LogicalPartition}
 use Rattle.table.specs.Table.{most}
 use Rattle.chain.specs.Facts.{seen, at, start, linkIn, bodyOf, leads, Held}
-use Rattle.sound.specs.Is.{All}
-use Rattle.sound.specs.Sound.{Contents, extendedIn, end, Sound}
+use Rattle.sound.specs.Sound.{Contents, extendedEntry, end, Sound}
 use Rattle.sound.proofs.Good.{Good, Span}
 use Rattle.sound.proofs.Test.{is-flag}
-use Rattle.links.specs.Links.{write}
+use Rattle.chain.specs.Links.{write}
 use Rattle.careful.specs.Careful.{relist}
 use Rattle.careful.specs.Demand3.{contentsOn, In, ClearOf, Safe}
 use Rattle.careful.proofs.Places.{Fit, good-fit, fit-of, Clear, Off, clear-under, clear-over, off-under, off-over, all-of, all-skip}
@@ -89,7 +89,7 @@ pub record Room (e : MBRPartitionEntry) (ls : List LogicalPartition) (l : Logica
   pub few : length (ls ++ l ∷ new ∷ ms) ≤ most
 
 module _ (d : Disk) (t : Contents) (e : MBRPartitionEntry) (ls : List LogicalPartition) (l : LogicalPartition) (ms : List LogicalPartition) (new : LogicalPartition)
-    (small : t .size < 2 ^ 32) (now : contentsOn d ≡ gives t) (r : Shows d t) (s : Sound t) (x : extendedIn t ≡ some e)
+    (small : t .size < 2 ^ 32) (now : contentsOn d ≡ gives t) (r : Shows d t) (s : Sound t) (x : extendedEntry t ≡ some e)
     (c : Split d e (t .size) ls l ms) (q : t .logicals ≡ ls ++ l ∷ ms) (k : Room e ls l ms new) where
   abbrev X : ℕ
   X = e .«starting_lba»

@@ -9,19 +9,19 @@ use Rattle.base.specs.Said.{gives}
 use Rattle.base.specs.Checks.{answer}
 use Rattle.base.specs.Row.{next, Row}
 use Rattle.base.proofs.Row.{row-join}
-use Rattle.entry.specs.declared.MBRPartitionEntry.{MBRPartitionEntry}
-use Rattle.entry.specs.Entry.{endOf}
-use Rattle.ebr.specs.Ebr.{ebrChecks, ebrOf}
+use Rattle.base.specs.All.{All}
+use Rattle.record_entry.specs.declared.MBRPartitionEntry.{MBRPartitionEntry}
+use Rattle.record_entry.specs.Entry.{endOf}
+use Rattle.record_ebr.specs.Ebr.{ebrChecks, ebrOf}
 use Rattle.extract.specs.Disk.{Disk, Store, stored}
 use Rattle.extract.specs.Extract.{blank}
 use Rattle.extract.proofs.Disk.{sector-other, size-stored, width-stored, record-blank}
 use Rattle.table.specs.declared.LogicalPartition.{LogicalPartition}
 use Rattle.table.specs.Table.{most}
 use Rattle.chain.specs.Facts.{bad, viewed, seen, at, start, linkIn, bodyOf, leads, Held}
-use Rattle.sound.specs.Is.{All}
-use Rattle.sound.specs.Sound.{Contents, extendedIn, end, Sound}
+use Rattle.sound.specs.Sound.{Contents, extendedEntry, end, Sound}
 use Rattle.sound.proofs.Good.{Good, Area, area-of, extended-small}
-use Rattle.links.specs.Links.{write}
+use Rattle.chain.specs.Links.{write}
 use Rattle.careful.specs.Stores.{wipe, moved}
 use Rattle.careful.specs.Careful.{relist}
 use Rattle.careful.specs.Demand3.{contentsOn, In, ClearOf, Safe}
@@ -33,7 +33,7 @@ use Rattle.careful.proofs.Push.{Writable, body-ok}
 
 -- `y` behind `l` removed: the EBR of `l` leads past it
 module _ (d : Disk) (t : Contents) (e : MBRPartitionEntry) (ls : List LogicalPartition) (l y : LogicalPartition) (ms : List LogicalPartition)
-    (small : t .size < 2 ^ 32) (now : contentsOn d ≡ gives t) (r : Shows d t) (s : Sound t) (x : extendedIn t ≡ some e)
+    (small : t .size < 2 ^ 32) (now : contentsOn d ≡ gives t) (r : Shows d t) (s : Sound t) (x : extendedEntry t ≡ some e)
     (c : Split d e (t .size) ls l (y ∷ ms)) (c′ : Split d e (t .size) (ls ++ l ∷ []) y ms) (q : t .logicals ≡ ls ++ l ∷ y ∷ ms) where
   abbrev X : ℕ
   X = e .«starting_lba»
@@ -107,7 +107,7 @@ module _ (d : Disk) (t : Contents) (e : MBRPartitionEntry) (ls : List LogicalPar
 
 -- one store at X, which then holds `n`, before the tail `ms` of the chain that was there
 module _ (d : Disk) (t : Contents) (e : MBRPartitionEntry) (ks : List LogicalPartition) (n : LogicalPartition) (ms : List LogicalPartition)
-    (small : t .size < 2 ^ 32) (now : contentsOn d ≡ gives t) (r : Shows d t) (s : Sound t) (x : extendedIn t ≡ some e) (q : t .logicals ≡ ks ++ ms)
+    (small : t .size < 2 ^ 32) (now : contentsOn d ≡ gives t) (r : Shows d t) (s : Sound t) (x : extendedEntry t ≡ some e) (q : t .logicals ≡ ks ++ ms)
     (first : Heads e (n ∷ ms)) (good : Row (Good (endOf e)) (n ∷ ms) none) (held : Row (Held (seen d) (e .«starting_lba»)) ms none)
     (few : length (n ∷ ms) ≤ most) (body : BodyOk (bodyOf n)) (leadsTo : NextOk (leads (e .«starting_lba») (next ms none)))
     (apart : All (λ z. ¬ (In (e .«starting_lba») (z .partition))) ks) where
@@ -173,7 +173,7 @@ moved-end e m = refl
 
 -- the first removed: X now describes the second
 pub remove-first-safe : (d : Disk) (t : Contents) (e : MBRPartitionEntry) (y m : LogicalPartition) (ms : List LogicalPartition) → t .size < 2 ^ 32 → contentsOn d ≡ gives t → Shows d t → Sound t
-    → extendedIn t ≡ some e → t .logicals ≡ y ∷ m ∷ ms → Split d e (t .size) [] y (m ∷ ms) → Split d e (t .size) (y ∷ []) m ms
+    → extendedEntry t ≡ some e → t .logicals ≡ y ∷ m ∷ ms → Split d e (t .size) [] y (m ∷ ms) → Split d e (t .size) (y ∷ []) m ms
     → Safe d t (record { stores = write e (moved e m) (next ms none) ∷ []; result = relist t (moved e m ∷ ms) })
 remove-first-safe d t e y m ms small now r s x q c c′ =
     let g : Good (endOf e) (moved e m) (next ms none) = moved-good e (t .size) m (next ms none) (c .area) (c′ .low) (c′ .good) in
@@ -183,7 +183,7 @@ remove-first-safe d t e y m ms small now r s x q c c′ =
     (body-ok (endOf e) (moved e m) (next ms none) g (moved-writable e m (writable-of m (c′ .body))) (omega (arith, moved-end e m, c′ .high, c′ .area .ends))) (c′ .leadsOk) apart
 
 -- the first one pushed: into an empty chain
-pub push-first-safe : (d : Disk) (t : Contents) (e : MBRPartitionEntry) (n : LogicalPartition) → t .size < 2 ^ 32 → contentsOn d ≡ gives t → Shows d t → Sound t → extendedIn t ≡ some e
+pub push-first-safe : (d : Disk) (t : Contents) (e : MBRPartitionEntry) (n : LogicalPartition) → t .size < 2 ^ 32 → contentsOn d ≡ gives t → Shows d t → Sound t → extendedEntry t ≡ some e
     → t .logicals ≡ [] → e .«starting_lba» ≤ at n → Good (endOf e) n none → Writable n → Safe d t (record { stores = write e (moved e n) none ∷ []; result = relist t (moved e n ∷ []) })
 push-first-safe d t e n small now r s x q h k w =
     let a : Area (t .size) e = area-of t e s x in
@@ -196,7 +196,7 @@ blank-bad : viewed (answer (ebrChecks blank) (ebrOf blank)) ≡ bad 3
 blank-bad = refl
 
 pub remove-only-safe : (d : Disk) (t : Contents) (e : MBRPartitionEntry) (y : LogicalPartition) → t .size < 2 ^ 32 → contentsOn d ≡ gives t → Shows d t → Sound t
-    → extendedIn t ≡ some e → t .logicals ≡ y ∷ [] → Split d e (t .size) [] y [] → Safe d t (record { stores = wipe e ∷ []; result = relist t [] })
+    → extendedEntry t ≡ some e → t .logicals ≡ y ∷ [] → Split d e (t .size) [] y [] → Safe d t (record { stores = wipe e ∷ []; result = relist t [] })
 unfolding wipe
 remove-only-safe d t e y small now r s x q c =
     let h : e .«starting_lba» < d .size = omega (arith, c .area .ends, c .area .size, c .size) in

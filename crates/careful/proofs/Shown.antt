@@ -12,20 +12,21 @@ use Rattle.base.specs.Bytes.{Record}
 use Rattle.base.specs.Said.{Said, gives, refuses, andThen}
 use Rattle.base.specs.Row.{Row}
 use Rattle.base.proofs.Row.{row-zip}
-use Rattle.entry.specs.declared.MBRPartitionEntry.{MBRPartitionEntry}
-use Rattle.entry.specs.Entry.{extended, endOf}
-use Rattle.mbr.specs.Mbr.{extendedOf}
+use Rattle.base.specs.All.{All}
+use Rattle.record_entry.specs.declared.MBRPartitionEntry.{MBRPartitionEntry}
+use Rattle.record_entry.specs.Entry.{extended, endOf}
+use Rattle.record_mbr.specs.Mbr.{extendedOf}
 use Rattle.extract.specs.Disk.{Disk, Store, stored, after}
 use Rattle.table.specs.declared.LogicalPartition.{LogicalPartition}
 use Rattle.table.specs.Table.{most, parts}
 use Rattle.chain.specs.Chain.{firstLink}
 use Rattle.chain.specs.Facts.{View, seen, at, linkIn, Held, Plain, Empty, Holds}
-use Rattle.align.specs.Align.{usedStarts}
-use Rattle.read.specs.Read.{Table, headerOn, read}
-use Rattle.read.specs.Facts.{Reads}
-use Rattle.read.proofs.Facts.{reads→read, read→reads, header-same}
-use Rattle.sound.specs.Is.{All, Pairs}
-use Rattle.sound.specs.Sound.{Contents, primariesOf, extendedIn, Used, Extended, Apart, FirstAt, Sound}
+use Rattle.read_align.specs.Align.{usedStarts}
+use Rattle.read_table.specs.Read.{Table, headerOn, read}
+use Rattle.read_table.specs.Facts.{Reads}
+use Rattle.read_table.proofs.Facts.{reads→read, read→reads, header-same}
+use Rattle.sound.specs.Is.{Pairs}
+use Rattle.sound.specs.Sound.{Contents, primariesOf, extendedEntry, Used, Extended, Apart, FirstAt, Sound}
 use Rattle.sound.proofs.Good.{Good, area-of, resound, extended-used, ext-go, ext-all}
 use Rattle.careful.specs.Careful.{contents, relist}
 use Rattle.careful.specs.Demand3.{contentsOn, In, ClearOf, Safe}
@@ -37,7 +38,7 @@ pub record Shows (d : Disk) (t : Contents) : Type 0 where
   pub width : d .width ≡ t .width
   pub size : d .size ≡ t .size
   pub header : headerOn d ≡ gives (t .header)
-  pub holds : Holds (seen d) (extendedIn t) (t .logicals)
+  pub holds : Holds (seen d) (extendedEntry t) (t .logicals)
 
 pub read→shows : (d : Disk) (t : Table) → read d ≡ gives t → Shows d (contents t)
 read→shows d t e =
@@ -82,10 +83,6 @@ pub holds-held : (v : ℕ → View) (e : MBRPartitionEntry) (ls : List LogicalPa
 holds-held v e [] h = tt
 holds-held v e (l ∷ ls) h = h .held
 
-pub holds-few : (v : ℕ → View) (e : MBRPartitionEntry) (ls : List LogicalPartition) → Holds v (some e) ls → length ls ≤ most
-holds-few v e [] h = omega arith
-holds-few v e (l ∷ ls) h = h .few
-
 pub holds-heads : (v : ℕ → View) (e : MBRPartitionEntry) (l : LogicalPartition) (ls : List LogicalPartition) → Holds v (some e) (l ∷ ls) → Heads e (l ∷ ls)
 holds-heads v e l ls h = (h .begins .0 ∙ add-zero (e .«starting_lba»), h .begins .1)
 
@@ -103,7 +100,7 @@ plain-of X hi l ls e h f =
     (row-under hi hi (l ∷ ls) none f (omega arith))
 
 -- the disk `d′` keeps sector 0 of `d`, which reads as the sound table `t` with the extended entry `e`
-module _ (d d′ : Disk) (t : Contents) (e : MBRPartitionEntry) (r : Shows d t) (s : Sound t) (small : t .size < 2 ^ 32) (x : extendedIn t ≡ some e)
+module _ (d d′ : Disk) (t : Contents) (e : MBRPartitionEntry) (r : Shows d t) (s : Sound t) (small : t .size < 2 ^ 32) (x : extendedEntry t ≡ some e)
     (width : d′ .width ≡ d .width) (size : d′ .size ≡ d .size) (zeroth : d′ .sector 0 ≡ d .sector 0) where
   shown : (ls : List LogicalPartition) → Holds (seen d′) (some e) ls → contentsOn d′ ≡ gives (relist t ls)
   unfolding relist
@@ -127,7 +124,7 @@ module _ (d d′ : Disk) (t : Contents) (e : MBRPartitionEntry) (r : Shows d t) 
   pub rebuilt-empty : Empty (seen d′ (e .«starting_lba»)) → contentsOn d′ ≡ gives (relist t [])
   rebuilt-empty h = shown [] h
 
-pub relist-sound : (t : Contents) (e : MBRPartitionEntry) → Sound t → extendedIn t ≡ some e → (ls : List LogicalPartition) → FirstAt (e .«starting_lba») ls
+pub relist-sound : (t : Contents) (e : MBRPartitionEntry) → Sound t → extendedEntry t ≡ some e → (ls : List LogicalPartition) → FirstAt (e .«starting_lba») ls
     → Row (Good (endOf e)) ls none → Sound (relist t ls)
 unfolding relist
 relist-sound t e s x ls f g = resound (endOf e) t e refl s x ls f g
@@ -162,7 +159,7 @@ ext-miss a e (p ∷ ps) h q i = go (ext-miss a e ps (h .1)) (ext-go (λ z. Unit 
         let ae : Apart p e × Extended e = ext-all (Apart p) e ps (h .0) (c .1) in
         ((λ u n j. apart-in p e (ae .0 u (extended-used (e .sys) (ae .1))) a j i), ih (c .1) i)
 
-pub clear-of : (t : Contents) (e : MBRPartitionEntry) (a : ℕ) → Sound t → extendedIn t ≡ some e → In a e → (ls : List LogicalPartition)
+pub clear-of : (t : Contents) (e : MBRPartitionEntry) (a : ℕ) → Sound t → extendedEntry t ≡ some e → In a e → (ls : List LogicalPartition)
     → All (λ l. ¬ (In a (l .partition))) ls → ClearOf a (relist t ls)
 unfolding relist
 clear-of t e a s x i ls h = record { primaries = ext-miss a e (primariesOf t) (s .apart) x i; logicals = h }

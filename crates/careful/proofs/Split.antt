@@ -7,18 +7,19 @@ use native.Mathlib.Omega.{arith}
 use lib.ListN.{length}
 use Rattle.base.specs.Row.{next, Row}
 use Rattle.base.proofs.Row.{row-left, row-right}
-use Rattle.entry.specs.declared.MBRPartitionEntry.{MBRPartitionEntry}
-use Rattle.entry.specs.Entry.{endOf}
+use Rattle.chain.proofs.Slots.{holds-few}
+use Rattle.record_entry.specs.declared.MBRPartitionEntry.{MBRPartitionEntry}
+use Rattle.record_entry.specs.Entry.{endOf}
 use Rattle.extract.specs.Disk.{Disk}
 use Rattle.table.specs.declared.LogicalPartition.{LogicalPartition}
 use Rattle.table.specs.Table.{most}
 use Rattle.chain.specs.Facts.{seen, at, bodyOf, leads, Held, Holds}
-use Rattle.sound.specs.Sound.{Contents, extendedIn, end, FirstAt, Sound}
+use Rattle.sound.specs.Sound.{Contents, extendedEntry, end, FirstAt, Sound}
 use Rattle.sound.proofs.Good.{Good, Area, area-of, extended-small, sound-first, sound-row}
 use Rattle.careful.specs.Demand3.{Whole}
 use Rattle.careful.proofs.Places.{Fit, good-fit, fit-of, Over, Under, row-over, row-under}
 use Rattle.careful.proofs.Written.{BodyOk, NextOk, seen-ok}
-use Rattle.careful.proofs.Shown.{Shows, Heads, holds-held, holds-few, holds-heads-at}
+use Rattle.careful.proofs.Shown.{Shows, Heads, holds-held, holds-heads-at}
 
 -- the table `ls ++ l ∷ ms` in the extended entry `e`, held by the disk
 pub record Split (d : Disk) (e : MBRPartitionEntry) (D : ℕ) (ls : List LogicalPartition) (l : LogicalPartition) (ms : List LogicalPartition) : Type 0 where
@@ -46,7 +47,7 @@ first-low e (y ∷ ys) l ms f r =
     row-right (Over (e .«starting_lba»)) (y ∷ ys) (l ∷ ms) none (row-over (endOf e) (e .«starting_lba») y (ys ++ l ∷ ms) none r (omega (arith, f))) .0
 
 pub split : (d : Disk) (t : Contents) (e : MBRPartitionEntry) (ls : List LogicalPartition) (l : LogicalPartition) (ms : List LogicalPartition) → Whole d → Shows d t → Sound t
-    → extendedIn t ≡ some e → t .logicals ≡ ls ++ l ∷ ms → Split d e (t .size) ls l ms
+    → extendedEntry t ≡ some e → t .logicals ≡ ls ++ l ∷ ms → Split d e (t .size) ls l ms
 split d t e ls l ms whole r s x q =
     let f : FirstAt (e .«starting_lba») (ls ++ l ∷ ms) = rw q at (sound-first t e s x) in
     let g : Row (Good (endOf e)) (ls ++ l ∷ ms) none = rw q at (sound-row t e s x) in
@@ -68,7 +69,7 @@ split d t e ls l ms whole r s x q =
       held = row-left (Held (seen d) (e .«starting_lba»)) ls (l ∷ ms) none held;
       here = hr .0;
       tail = hr .1;
-      few = holds-few (seen d) e (ls ++ l ∷ ms) h;
+      few = holds-few (seen d) (some e) (ls ++ l ∷ ms) h;
       low = first-low e ls l ms f (fit-of (endOf e) (ls ++ l ∷ ms) none g);
       high = row-right (Under (endOf e)) ls (l ∷ ms) none (row-under (endOf e) (endOf e) (ls ++ l ∷ ms) none (fit-of (endOf e) (ls ++ l ∷ ms) none g) (omega arith)) .0;
       body = ok .1;

@@ -15,13 +15,13 @@ use Rattle.base.specs.Checks.{answer}
 use Rattle.base.specs.Row.{next, Row}
 use Rattle.base.proofs.Checks.{none-fails, all-hold, checked-none}
 use Rattle.base.proofs.Row.{row-zip, row-join}
-use Rattle.chs.specs.declared.CHS.{CHS}
-use Rattle.chs.specs.Chs.{ChsOk}
-use Rattle.entry.specs.declared.MBRPartitionEntry.{MBRPartitionEntry}
-use Rattle.entry.specs.Entry.{flagOk, EntryOk}
-use Rattle.ebr.specs.declared.EBRHeader.{EBRHeader}
-use Rattle.ebr.specs.Ebr.{ebrChecks, lentChecks, ebrOf, ebrBytes, KeptOk, EbrOk}
-use Rattle.ebr.proofs.Laws.{ebr-back, ebr-reads, ebr-record, ebr-ok}
+use Rattle.record_chs.specs.declared.CHS.{CHS}
+use Rattle.record_chs.specs.Chs.{ChsOk}
+use Rattle.record_entry.specs.declared.MBRPartitionEntry.{MBRPartitionEntry}
+use Rattle.record_entry.specs.Entry.{flagOk, EntryOk}
+use Rattle.record_ebr.specs.declared.EBRHeader.{EBRHeader}
+use Rattle.record_ebr.specs.Ebr.{ebrChecks, ebrReadChecks, ebrOf, ebrBytes, KeptOk, EbrOk}
+use Rattle.record_ebr.proofs.Laws.{ebr-back, ebr-reads, ebr-record, ebr-ok}
 use Rattle.extract.specs.Disk.{Disk, Store, stored}
 use Rattle.extract.proofs.Disk.{sector-same, sector-other, size-stored}
 use Rattle.table.specs.declared.MaybeSectors.the-variants.{Present}
@@ -30,7 +30,7 @@ use Rattle.table.specs.declared.LogicalPartition.{LogicalPartition}
 use Rattle.chain.specs.Chain.{view, Link, linkOf, byLink}
 use Rattle.chain.specs.Facts.{Body, Next, stop, to, View, ebr, nextOf, bodyIn, viewed, seen, at, start, bodyOf, leads, Held}
 use Rattle.chain.proofs.View.{view→facts, view-inside, view-same, Seen, seen→view}
-use Rattle.links.specs.Links.{linkEntry, ebrFor, write}
+use Rattle.chain.specs.Links.{linkEntry, ebrFor, write}
 use Rattle.careful.specs.Demand3.{Whole}
 use Rattle.careful.proofs.Places.{Fit, Off, off-under, off-over}
 
@@ -99,7 +99,7 @@ module _ (e : MBRPartitionEntry) (l : LogicalPartition) (n : Option LogicalParti
   unfolding ebrFor
   written =
       let h : EBRHeader = ebrFor e l n in
-      let f = none-fails (lentChecks (ebrBytes h)) (ebr-reads h header-ok (b .flag) (link-flag (e .sys) (leads (e .«starting_lba») n))) in
+      let f = none-fails (ebrReadChecks (ebrBytes h)) (ebr-reads h header-ok (b .flag) (link-flag (e .sys) (leads (e .«starting_lba») n))) in
       checked-none (ebrChecks (ebrBytes h)) refuses (gives (ebrOf (ebrBytes h))) (all-hold (ebrChecks (ebrBytes h)) (f .1)) ∙ ap gives (ebr-back h header-ok)
 
   pub write-record : Record (write e l n .bytes)

@@ -7,18 +7,18 @@ use lib.Dec.{ltb, leb}
 use lib.ListN.{length}
 use Rattle.base.specs.Said.{Said, andThen}
 use Rattle.base.specs.Checks.{Check, _!_, checked, answer}
-use Rattle.entry.specs.declared.MBRPartitionEntry.{MBRPartitionEntry}
-use Rattle.entry.specs.Entry.{noEntry, used, extended}
+use Rattle.record_entry.specs.declared.MBRPartitionEntry.{MBRPartitionEntry}
+use Rattle.record_entry.specs.Entry.{noEntry, used, extended}
 use Rattle.extract.specs.Disk.{Disk, Store}
 use Rattle.table.specs.declared.LogicalPartition.{LogicalPartition}
 use Rattle.table.specs.declared.MBR.{MBR}
-use Rattle.read.specs.Read.{Table, read, readSays}
-use Rattle.address.specs.declared.Geometry.{Geometry}
-use Rattle.request.specs.declared.Request.{Request}
-use Rattle.push.specs.Push.{placeOf, sizeOf, laterThan, newLogical, pushChecks, pushed}
-use Rattle.sound.specs.Sound.{Contents, extendedIn, areaEnd, end, soundb}
-pub use Rattle.stored.specs.Stored.{roomNeeded}
-use Rattle.careful.specs.Stores.{firstPlace, leftOut, lastOf, pushStores, removeStore}
+use Rattle.read_table.specs.Read.{Table, read, readSays}
+use Rattle.table_address.specs.declared.Geometry.{Geometry}
+use Rattle.table_push.specs.declared.request.Request.{Request}
+use Rattle.table_push.specs.Push.{placeOf, sizeOf, laterThan, newLogical, pushChecks, pushed}
+use Rattle.sound.specs.Sound.{Contents, extendedEntry, areaEnd, end, soundb}
+pub use Rattle.careful_stores.specs.Stored.{roomNeeded}
+use Rattle.careful.specs.Stores.{firstInPlace, leftOut, lastListed, pushStores, removeStore}
 
 -- what is read, but for the alignment, which no disk holds
 abbrev pub contents : Table → Contents
@@ -30,18 +30,18 @@ relist t ls = record { width = t .width; size = t .size; header = t .header; log
 
 -- the extended entry
 abbrev pub areaOf : Contents → MBRPartitionEntry
-areaOf t = Option·getD (extendedIn t) noEntry
+areaOf t = Option·getD (extendedEntry t) noEntry
 
 -- what a careful change yields: stores in their order, and the table after them
 pub record Change : Type 0 where
   pub stores : List Store
   pub result : Contents
 
--- rules K5, K6: a geometry that would be complete but for more than 63 sectors
+-- rule K5: a geometry that would be complete but for more than 63 sectors
 unfoldable pub tooWide : Geometry → Bool
 tooWide g = ltb 0 (g .cylinders) && leb (g .cylinders) 1023 && ltb 0 (g .heads) && ltb 63 (g .sectors)
 
--- rules K3 to K5: type 0, extended, or a complete geometry of more than 63 sectors, 23
+-- rules K3 and K5: type 0, extended, or a complete geometry of more than 63 sectors, 23
 unfoldable pub askChecks : Request → List Check
 askChecks q = (23 ! used (q .sys)) ∷ (23 ! not (extended (q .sys))) ∷ (23 ! not (tooWide (q .geometry))) ∷ []
 
@@ -49,21 +49,16 @@ askChecks q = (23 ! used (q .sys)) ∷ (23 ! not (extended (q .sys))) ∷ (23 ! 
 abbrev pub askable : Request → Bool
 askable q = checked (askChecks q) (λ _. false) true
 
--- where the last partition ends
-unfoldable pub lastEnd : List LogicalPartition → ℕ
-lastEnd [] = 0
-lastEnd (l ∷ ls) = end (lastOf l ls)
-
--- rules K10, K11: ends by the extended end, for a first one too, 12; starts at or after the last partition's end, 21 (rule K13)
+-- rules K10, K11: ends by the extended end, for a first one too, 12; starts at or after the last partition's end, 21 (rule K7)
 unfoldable pub spaceChecks : Request → Contents → List Check
-spaceChecks q t = (12 ! leb (placeOf q + sizeOf q) (areaEnd (extendedIn t))) ∷ (21 ! leb (lastEnd (t .logicals)) (placeOf q)) ∷ []
+spaceChecks q t = (12 ! leb (placeOf q + sizeOf q) (areaEnd (extendedEntry t))) ∷ (21 ! leb (end (lastListed (t .logicals))) (placeOf q)) ∷ []
 
 -- rules K2 to K15: the refusals of a careful push, after reading's, 20, 23, all of push, 12, 21, 19
 unfoldable pub pushRefusals : ℕ → Request → Contents → List Check
 pushRefusals room q t =
     (20 ! soundb t)
     ∷ askChecks q
-    ++ pushChecks q (extendedIn t) (length (t .logicals))
+    ++ pushChecks q (extendedEntry t) (length (t .logicals))
     ++ spaceChecks q t
     ++ (19 ! leb roomNeeded room)
     ∷ []
@@ -73,7 +68,7 @@ unfoldable pub pushChange : Request → Contents → Change
 pushChange q t =
     record {
       stores = pushStores (areaOf t) (t .logicals) (newLogical (laterThan (length (t .logicals))) q);
-      result = relist t (firstPlace (areaOf t) (pushed q (t .logicals)));
+      result = relist t (firstInPlace (areaOf t) (pushed q (t .logicals)));
     }
 
 -- rules V2 to V6: those of a careful removal, after reading's, 20, 17, 19 (rule V16)
@@ -86,7 +81,7 @@ unfoldable pub removeChange : ℕ → Contents → Change
 removeChange n t =
     record {
       stores = removeStore (areaOf t) (t .logicals) (n - 5) ∷ [];
-      result = relist t (firstPlace (areaOf t) (leftOut (t .logicals) (n - 5)));
+      result = relist t (firstInPlace (areaOf t) (leftOut (t .logicals) (n - 5)));
     }
 
 -- a table by value with the request's alignment and geometry, as the crate's push takes it
@@ -106,7 +101,7 @@ asAsked t q =
 
 -- a table under the first-place rule
 unfoldable pub inFirstPlace : Contents → Contents
-inFirstPlace t = relist t (firstPlace (areaOf t) (t .logicals))
+inFirstPlace t = relist t (firstInPlace (areaOf t) (t .logicals))
 
 -- a careful change of what was read: reading's refusals, then the listed ones
 abbrev pub changing : (Contents → List Check) → (Contents → Change) → Said Table → Said Change
@@ -123,6 +118,6 @@ carefulRemove d room n = changing (removeRefusals room n) (removeChange n) (read
 unfoldable pub carefulPushSays : List ℕ → ℕ → Request → Said Change
 carefulPushSays x room q = changing (pushRefusals room q) (pushChange q) (readSays x)
 
--- rules V1, V15 and Z74
+-- rules V1, V14 and Z73
 unfoldable pub carefulRemoveSays : List ℕ → ℕ → ℕ → Said Change
 carefulRemoveSays x room n = changing (removeRefusals room n) (removeChange n) (readSays x)

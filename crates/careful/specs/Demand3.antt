@@ -8,18 +8,19 @@ use lib.ListN.{length, take, drop}
 use Rattle.base.specs.Bytes.{Record}
 use Rattle.base.specs.Said.{Said, gives, refuses, andThen}
 use Rattle.base.specs.Checks.{Check, first-fail, AllHold, FirstFail}
-use Rattle.entry.specs.declared.MBRPartitionEntry.{MBRPartitionEntry}
-use Rattle.entry.specs.Entry.{endOf}
+use Rattle.base.specs.All.{All}
+use Rattle.record_entry.specs.declared.MBRPartitionEntry.{MBRPartitionEntry}
+use Rattle.record_entry.specs.Entry.{endOf}
 use Rattle.extract.specs.Disk.{Disk, after}
 use Rattle.table.specs.declared.MBR.{MBR}
-use Rattle.read.specs.Read.{Table, read, readSays, tableOf}
-use Rattle.request.specs.declared.Request.{Request}
-use Rattle.push.specs.Push.{pushSays, pushTable}
-use Rattle.remove.specs.Remove.{removeChecks, removedTable}
-use Rattle.sound.specs.Is.{All}
+use Rattle.read_table.specs.Read.{Table, read, readSays, tableOf}
+use Rattle.table_push.specs.declared.request.Request.{Request}
+use Rattle.table_push.specs.Push.{pushSays, pushTable}
+use Rattle.table_remove.specs.Remove.{removeChecks, removedTable}
 use Rattle.sound.specs.Sound.{Contents, contentsOf, primariesOf, Used, Extended, Sound}
 use Rattle.careful.specs.Careful.{contents, Change, pushRefusals, removeRefusals, asAsked, inFirstPlace}
 use Rattle.careful.specs.Output.{storesIn}
+use Rattle.careful_stores.specs.Stored.{storeLength}
 
 -- each sector of the disk is a record
 abbrev pub Whole : Disk → Type 0
@@ -66,7 +67,7 @@ pub record Accepted (t : Contents) (crate : MBR → Type 0) (out : List ℕ) (sa
   -- so many stores stand in the lent output; the bytes behind them are as before
   pub number : ℕ
   pub counted : said ≡ gives number
-  pub rest : drop (number * 516) left ≡ drop (number * 516) out
+  pub rest : drop (number * storeLength) left ≡ drop (number * storeLength) out
   -- put on any disk that reads as t they are safe, and end in the crate's own table under the first-place rule
   pub safe : (d : Disk) → Whole d → contentsOn d ≡ gives t → Safe d t (record { stores = storesIn left number; result = inFirstPlace (contentsOf own) })
 

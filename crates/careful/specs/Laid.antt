@@ -7,7 +7,7 @@ use lib.ListN.{length, take}
 use Rattle.base.specs.Said.{gives}
 use Rattle.extract.specs.Disk.{Store}
 use Rattle.extract.specs.Extract.{mostRecords, diskOf}
-use Rattle.layover.specs.Layover.{newRecords, newExtract}
+use Rattle.extract_lay.specs.Layover.{newRecords, newExtract}
 use Rattle.sound.specs.Sound.{Contents}
 use Rattle.careful.specs.Careful.{Change}
 use Rattle.careful.specs.Demand3.{contentsOn}

@@ -7,8 +7,8 @@ use native.Mathlib.Omega.{arith}
 use native.Mathlib.Nat.{add-zero}
 use Rattle.base.specs.Said.{Said, gives, refuses, andThen}
 use Rattle.base.specs.Row.{next}
-use Rattle.entry.specs.declared.MBRPartitionEntry.{MBRPartitionEntry}
-use Rattle.ebr.specs.declared.EBRHeader.{EBRHeader}
+use Rattle.record_entry.specs.declared.MBRPartitionEntry.{MBRPartitionEntry}
+use Rattle.record_ebr.specs.declared.EBRHeader.{EBRHeader}
 use Rattle.table.specs.declared.LogicalPartition.{LogicalPartition}
 use Rattle.table.specs.Table.{most}
 use Rattle.chain.specs.Chain.{Link, firstLink, linkOf, startingAt, placed, join, byLink, followsIn, chain, forgiven, logicalsOf}

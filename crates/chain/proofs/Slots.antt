@@ -10,9 +10,9 @@ use lib.Seq.{take-suc, set-append-seam, append-snoc, length-take-le}
 use borrow.Author.Tests.{ne-eqb}
 use Rattle.base.specs.Said.{Said, gives, refuses}
 use Rattle.base.specs.Row.{next, Row}
-use Rattle.entry.specs.declared.MBRPartitionEntry.{MBRPartitionEntry}
-use Rattle.ebr.specs.declared.EBRHeader.{EBRHeader}
-use Rattle.ebr.specs.Ebr.{ebrOf}
+use Rattle.record_entry.specs.declared.MBRPartitionEntry.{MBRPartitionEntry}
+use Rattle.record_ebr.specs.declared.EBRHeader.{EBRHeader}
+use Rattle.record_ebr.specs.Ebr.{ebrOf}
 use Rattle.extract.specs.Extract.{Good, count, lbaAt, recordAt, diskOf, blank}
 use Rattle.extract.proofs.Disk.{sector-of}
 use Rattle.extract.proofs.Halves.{found-is}
@@ -20,7 +20,7 @@ use Rattle.table.specs.declared.LogicalPartition.{LogicalPartition}
 use Rattle.table.specs.Table.{most, noLogical, emptySlot, slots, parts}
 use Rattle.chain.specs.Chain.{view, Link, firstLink, placed, logicalsOf}
 use Rattle.chain.specs.Facts.{View, nextOf, bodyIn, bodyOf, leads, linkIn, Held, Plain, Holds, at, seen}
-use Rattle.chain.specs.Walk.{placesOf, counted, Fit, Fits, Noted, NotedAll, firstOf, partIn, lifted, linkAt, rebuilt, linkTo, Logicals, told}
+use Rattle.chain.specs.Walk.{placesOf, counted, Fit, AllFit, Noted, NotedAll, firstLinkOf, partIn, lifted, linkAt, rebuilt, linkTo, Logicals, told}
 use Rattle.chain.specs.declared.Counted.{Counted}
 use Rattle.chain.proofs.View.{seen→view, view→facts, next→to}
 use Rattle.chain.proofs.Rows.{placedBy, placed-by, placed-body, logicals→holds}
@@ -49,20 +49,20 @@ rebuilt-parts x k is zero = refl
 rebuilt-parts x k [] (suc m) = refl
 rebuilt-parts x k (i ∷ is) (suc m) = ap (λ (es : List MBRPartitionEntry). partIn x i ∷ es) (rebuilt-parts x (linkAt x i) is m)
 
--- the first i of 24 in their slots
+-- the first i in their slots
 abbrev pub sofar : List LogicalPartition → ℕ → List LogicalPartition
-sofar ls i = take i ls ++ replicate (24 - i) emptySlot
+sofar ls i = take i ls ++ replicate (most - i) emptySlot
 
-pub sofar-none : (ls : List LogicalPartition) → replicate 24 emptySlot ≡ sofar ls 0
+pub sofar-none : (ls : List LogicalPartition) → replicate most emptySlot ≡ sofar ls 0
 sofar-none ls = refl
 
 set-at : {A : Type 0} (xs : List A) (y : A) (ys : List A) (i : ℕ) (a : A) → length xs ≡ i → set (xs ++ y ∷ ys) i a ≡ xs ++ a ∷ ys
 set-at xs y ys i a e = subst (λ (k : ℕ). set (xs ++ y ∷ ys) k a ≡ xs ++ a ∷ ys) e (set-append-seam xs y ys a)
 
-pub sofar-more : (ls : List LogicalPartition) (i : ℕ) → length ls ≡ 24 → i < 24 → set (sofar ls i) i (getD ls i noLogical) ≡ sofar ls (i + 1)
+pub sofar-more : (ls : List LogicalPartition) (i : ℕ) → length ls ≡ most → i < most → set (sofar ls i) i (getD ls i noLogical) ≡ sofar ls (i + 1)
 sofar-more ls i l h =
-    let r : 24 - i ≡ suc (24 - (i + 1)) = omega arith in
-    let R = replicate (24 - (i + 1)) emptySlot in
+    let r : most - i ≡ suc (most - (i + 1)) = omega arith in
+    let R = replicate (most - (i + 1)) emptySlot in
     let v = getD ls i noLogical in
     let n : length (take i ls) ≡ i = length-take-le i ls (omega arith) in
     let t : take (i + 1) ls ≡ take i ls ++ (v ∷ []) = ap (λ (k : ℕ). take k ls) (add-one i) ∙ take-suc ls i noLogical (omega arith) in
@@ -70,14 +70,14 @@ sofar-more ls i l h =
     ∙ set-at (take i ls) emptySlot R i v n
     ∙ sym (ap (λ (z : List LogicalPartition). z ++ R) t ∙ append-snoc (take i ls) v R)
 
-pub sofar-slots : (ls : List LogicalPartition) (i : ℕ) → length ls ≡ 24 → i ≤ 24 → sofar ls i ≡ slots (take i ls)
+pub sofar-slots : (ls : List LogicalPartition) (i : ℕ) → length ls ≡ most → i ≤ most → sofar ls i ≡ slots (take i ls)
 unfolding slots
 sofar-slots ls i l h =
     let n : length (take i ls) ≡ i = length-take-le i ls (omega arith) in
     rw n
 
 -- the records that were noted
-pub noted-fits : (x is ps : List ℕ) → Noted x is ps → Fits x (length ps) is
+pub noted-fits : (x is ps : List ℕ) → Noted x is ps → AllFit x (length ps) is
 noted-fits x is [] n j h = absurd (omega arith)
 noted-fits x [] (a ∷ ps) n j h = absurd n
 noted-fits x (i ∷ is) (a ∷ ps) n zero h = n .0
@@ -122,7 +122,7 @@ module _ (x : List ℕ) (g : Good x) (X : ℕ) where
       λ j. e j ∷ t j
 
 holds-rebuilt : (x : List ℕ) → Good x → (o : Option MBRPartitionEntry) (ls : List LogicalPartition) (is : List ℕ) → Holds (seen (diskOf x)) o ls → Noted x is (map at ls)
-    → take (length ls) (rebuilt x (firstOf o) is) ≡ ls
+    → take (length ls) (rebuilt x (firstLinkOf o) is) ≡ ls
 holds-rebuilt x g o [] is h n = refl
 holds-rebuilt x g none (l ∷ ls) is h n = absurd h
 holds-rebuilt x g (some e) (l ∷ ls) is h n = row-rebuilt x g (e .«starting_lba») (firstLink e) (l ∷ ls) is (h .begins .1) (h .held) (h .plain) n
@@ -134,28 +134,28 @@ holds-few w (some e) (l ∷ ls) h = h .few
 
 -- what reading a chain leads to
 abbrev pub readAs : List ℕ → Option MBRPartitionEntry → List ℕ → Counted → Logicals
-readAs x o is r = record { answer = r .answer; logicals = slots (take (r .count) (rebuilt x (firstOf o) is)); count = r .count }
+readAs x o is r = record { answer = r .answer; logicals = slots (take (r .count) (rebuilt x (firstLinkOf o) is)); count = r .count }
 
 module _ (x : List ℕ) (g : Good x) (o : Option MBRPartitionEntry) (is : List ℕ) (r : Counted) where
   abbrev said : Said (List LogicalPartition)
   said = logicalsOf (view (diskOf x)) o
 
-  pub told-chain : r ≡ counted 0 (placesOf said) → NotedAll x is (placesOf said) → (r .count ≤ 24) × Fits x (r .count) is × (readAs x o is r ≡ told said)
+  pub told-chain : r ≡ counted 0 (placesOf said) → NotedAll x is (placesOf said) → (r .count ≤ most) × AllFit x (r .count) is × (readAs x o is r ≡ told said)
   told-chain q n = go said refl q n
     where
       go : (s : Said (List LogicalPartition)) → said ≡ s → r ≡ counted 0 (placesOf s) → NotedAll x is (placesOf s)
-          → (r .count ≤ 24) × Fits x (r .count) is × (readAs x o is r ≡ told s)
+          → (r .count ≤ most) × AllFit x (r .count) is × (readAs x o is r ≡ told s)
       go (refuses k) z q n = rw q (omega arith, λ j h. absurd (omega arith), refl)
       go (gives ls) z q n =
           let h = logicals→holds (view (diskOf x)) o ls z in
           let c : r .count ≡ length ls = ap (λ (y : Counted). y .count) q ∙ omega (arith, length-map ls at) in
-          let f : Fits x (length ls) is = rw (length-map ls at) at (noted-fits x is (map at ls) n) in
+          let f : AllFit x (length ls) is = rw (length-map ls at) at (noted-fits x is (map at ls) n) in
           let a : r .answer ≡ told (gives ls) .answer = ap (λ (y : Counted). y .answer) q in (
             omega (arith, holds-few (seen (diskOf x)) o ls h),
             rw c f,
             λ j. record {
               answer = a j;
-              logicals = slots ((ap (λ (m : ℕ). take m (rebuilt x (firstOf o) is)) c ∙ holds-rebuilt x g o ls is h n) j);
+              logicals = slots ((ap (λ (m : ℕ). take m (rebuilt x (firstLinkOf o) is)) c ∙ holds-rebuilt x g o ls is h n) j);
               count = c j;
             },
           )

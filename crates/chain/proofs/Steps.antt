@@ -11,14 +11,14 @@ use borrow.Author.Tests.{lt-ltb, le-ltb, eq-eqb, ne-eqb}
 use Rattle.base.specs.Said.{Said, gives, refuses, andThen}
 use Rattle.base.specs.Checks.{answer}
 use Rattle.base.proofs.Checks.{answer-gives, answer-refuses, checked-none, checked-some}
-use Rattle.entry.specs.declared.MBRPartitionEntry.{MBRPartitionEntry}
-use Rattle.entry.specs.Entry.{entryAt, noEntry}
-use Rattle.ebr.specs.declared.EBRHeader.{EBRHeader}
-use Rattle.ebr.specs.declared.Entries.{Entries}
-use Rattle.ebr.specs.Ebr.{ebrChecks, ebrOf, entriesOf}
+use Rattle.record_entry.specs.declared.MBRPartitionEntry.{MBRPartitionEntry}
+use Rattle.record_entry.specs.Entry.{entryAt, noEntry}
+use Rattle.record_ebr.specs.declared.EBRHeader.{EBRHeader}
+use Rattle.record_ebr.specs.declared.Entries.{Entries}
+use Rattle.record_ebr.specs.Ebr.{ebrChecks, ebrOf, entriesOf}
 use Rattle.extract.specs.Disk.{Disk}
 use Rattle.extract.specs.Extract.{Good, count, diskSectors, lbaAt, recordAt, recordOf, diskOf, blank}
-use Rattle.extract.specs.declared.Outcome.the-variants as outcome
+use Rattle.base.specs.declared.Answer.the-variants as answers
 use Rattle.extract.proofs.Disk.{size-of, sector-of, record-at}
 use Rattle.extract.proofs.Halves.{found-is, absent-is}
 use Rattle.table.specs.declared.LogicalPartition.{LogicalPartition}
@@ -143,8 +143,8 @@ from-shut v X m r k q = rw (← q)
 pub from-on : (v : ℕ → Said EBRHeader) (X m r : ℕ) (h : EBRHeader) → gives h ≡ v (X + r) → placesFrom v X m r ≡ places v X m r h
 from-on v X m r h q = rw (← q)
 
-pub counted-none : (p : ℕ) → record { answer = outcome.Done; count = p } ≡ counted p (gives [])
-counted-none p = λ i. record { answer = outcome.Done; count = sym (add-zero p) i }
+pub counted-none : (p : ℕ) → record { answer = answers.Done; count = p } ≡ counted p (gives [])
+counted-none p = λ i. record { answer = answers.Done; count = sym (add-zero p) i }
 
 -- one more in front
 pub counted-more : (p a : ℕ) (s : Said (List ℕ)) → counted (p + 1) s ≡ counted p (before a s)

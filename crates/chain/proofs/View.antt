@@ -11,9 +11,9 @@ use Rattle.base.specs.Pick.{pick}
 use Rattle.base.specs.Said.{Said, gives, refuses}
 use Rattle.base.specs.Checks.{_!_, answer, AllHold}
 use Rattle.base.proofs.Checks.{answer-gives, none-fails, all-hold, checked-none}
-use Rattle.entry.specs.declared.MBRPartitionEntry.{MBRPartitionEntry}
-use Rattle.ebr.specs.declared.EBRHeader.{EBRHeader}
-use Rattle.ebr.specs.Ebr.{ebrChecks, ebrOf}
+use Rattle.record_entry.specs.declared.MBRPartitionEntry.{MBRPartitionEntry}
+use Rattle.record_ebr.specs.declared.EBRHeader.{EBRHeader}
+use Rattle.record_ebr.specs.Ebr.{ebrChecks, ebrOf}
 use Rattle.extract.specs.Disk.{Disk}
 use Rattle.chain.specs.Chain.{view, Link, linkOf, byLink}
 use Rattle.chain.specs.Facts.{Body, Next, stop, to, ebr, nextOf, bodyIn, viewed}

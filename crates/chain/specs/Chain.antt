@@ -6,10 +6,10 @@ use lib.Dec.{eqb, ltb}
 use Rattle.base.specs.Pick.{pick}
 use Rattle.base.specs.Said.{Said, gives, refuses, andThen}
 use Rattle.base.specs.Checks.{_!_, checked, answer}
-use Rattle.chs.specs.declared.CHS.{CHS}
-use Rattle.entry.specs.declared.MBRPartitionEntry.{MBRPartitionEntry}
-use Rattle.ebr.specs.declared.EBRHeader.{EBRHeader}
-use Rattle.ebr.specs.Ebr.{ebrChecks, ebrOf}
+use Rattle.record_chs.specs.declared.CHS.{CHS}
+use Rattle.record_entry.specs.declared.MBRPartitionEntry.{MBRPartitionEntry}
+use Rattle.record_ebr.specs.declared.EBRHeader.{EBRHeader}
+use Rattle.record_ebr.specs.Ebr.{ebrChecks, ebrOf}
 use Rattle.extract.specs.Disk.{Disk}
 use Rattle.table.specs.declared.MaybeSectors.{MaybeSectors}
 use Rattle.table.specs.declared.MaybeSectors.the-variants.{Absent, Present}
@@ -18,7 +18,7 @@ use Rattle.table.specs.declared.MaybeChs.the-variants.{Absent as NoChs, Present
 use Rattle.table.specs.declared.LogicalPartition.{LogicalPartition}
 use Rattle.table.specs.Table.{most}
 
--- the EBR at a sector: past the disk 2, signature 3, flags 4 (rules R9 to R11)
+-- the EBR at a sector: past the disk 2, signature 3, flags 4 (rule R9)
 unfoldable pub view : Disk → ℕ → Said EBRHeader
 view d a = answer ((2 ! ltb a (d .size)) ∷ ebrChecks (d .sector a)) (ebrOf (d .sector a))
 
@@ -28,11 +28,11 @@ pub record Link : Type 0 where
   pub first : CHS
   pub last : MaybeChs
 
--- to the first EBR: no sectors, no last CHS, the extended entry's first CHS (rules R18 and R19)
+-- to the first EBR: no sectors, no last CHS, the extended entry's first CHS (rule R18)
 abbrev pub firstLink : MBRPartitionEntry → Link
 firstLink e = record { sectors = Absent; first = e .«first_chs»; last = NoChs }
 
--- to a later EBR: from the link entry (rule R20)
+-- to a later EBR: from the link entry (rule R18)
 abbrev pub linkOf : MBRPartitionEntry → Link
 linkOf e = record { sectors = Present (e .sectors); first = e .«first_chs»; last = SomeChs (e .«last_chs») }
 
@@ -48,7 +48,7 @@ startingAt s e =
       sectors = e .sectors;
     }
 
--- the logical partition of the EBR h at sector a, to which k leads (rules R21 and R22)
+-- the logical partition of the EBR h at sector a, to which k leads (rule R21)
 unfoldable pub placed : ℕ → Link → EBRHeader → LogicalPartition
 placed a k h =
     record {
@@ -74,7 +74,7 @@ byLink end on none = end
 byLink end on (some r) = on r
 
 -- The decision what follows an EBR at sector a, whose place counted from the extended partition's start is rel, whose partition starts at p and whose link at t;
--- m is the number of EBRs still allowed. The 25th EBR 6; partition start + sector beyond 32 bits 7; an end; a link not above the current place 5; else the link's place (rules R12 to R15)
+-- m is the number of EBRs still allowed. The 25th EBR 6; partition start + sector beyond 32 bits 7; an end; a link not above the current place 5; else the link's place (rules R12 to R15 and R34)
 unfoldable pub follows : ℕ → ℕ → ℕ → ℕ → ℕ → Said (Option ℕ)
 follows m a rel p t =
     checked ((6 ! ltb 0 m) ∷ (7 ! ltb (p + a) (2 ^ 32)) ∷ []) refuses
@@ -84,7 +84,7 @@ follows m a rel p t =
 abbrev pub followsIn : ℕ → ℕ → ℕ → EBRHeader → Said (Option ℕ)
 followsIn m X rel h = follows m (X + rel) rel (h .«partition_1» .«starting_lba») (h .«partition_2» .«starting_lba»)
 
--- the EBR h at X + rel, to which k leads, and what follows it; m is the number of EBRs still allowed, and with none allowed the decision refuses (rules R8, R17, R23 and R33)
+-- the EBR h at X + rel, to which k leads, and what follows it; m is the number of EBRs still allowed, and with none allowed the decision refuses (rules R7, R9, R23 and R33)
 unfoldable pub chain : (ℕ → Said EBRHeader) → ℕ → ℕ → ℕ → Link → EBRHeader → Said (List LogicalPartition)
 chain v X zero rel k h = andThen (followsIn zero X rel h) (λ o. gives [])
 chain v X (suc m) rel k h =
@@ -96,7 +96,7 @@ abbrev pub forgiven : Said EBRHeader → (EBRHeader → Said (List LogicalPartit
 forgiven (gives h) f = f h
 forgiven (refuses k) f = gives []
 
--- the logical partitions of an extended entry, from its start X on (rules R6, R7, R25 and R28)
+-- the logical partitions of an extended entry, from its start X on (rules R6, R7 and R23)
 unfoldable pub logicalsOf : (ℕ → Said EBRHeader) → Option MBRPartitionEntry → Said (List LogicalPartition)
 logicalsOf v none = gives []
 logicalsOf v (some e) = forgiven (v (e .«starting_lba»)) (chain v (e .«starting_lba») most 0 (firstLink e))

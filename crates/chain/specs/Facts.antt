@@ -6,9 +6,9 @@ use mathlib.Core.Path.{_≡_}
 use lib.ListN.{length}
 use Rattle.base.specs.Said.{Said, gives, refuses}
 use Rattle.base.specs.Row.{Row}
-use Rattle.entry.specs.declared.MBRPartitionEntry.{MBRPartitionEntry}
-use Rattle.ebr.specs.declared.Kept.{Kept}
-use Rattle.ebr.specs.declared.EBRHeader.{EBRHeader}
+use Rattle.record_entry.specs.declared.MBRPartitionEntry.{MBRPartitionEntry}
+use Rattle.record_ebr.specs.declared.Kept.{Kept}
+use Rattle.record_ebr.specs.declared.EBRHeader.{EBRHeader}
 use Rattle.extract.specs.Disk.{Disk}
 use Rattle.table.specs.declared.LogicalPartition.{LogicalPartition}
 use Rattle.table.specs.Table.{most}

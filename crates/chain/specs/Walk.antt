@@ -7,19 +7,19 @@ use mathlib.Core.Path.{_≡_}
 use lib.Dec.{eqb, ltb}
 use lib.ListN.{length, getD}
 use Rattle.base.specs.Pick.{pick}
-use Rattle.base.specs.Said.{Said, gives, refuses, andThen}
-use Rattle.entry.specs.declared.MBRPartitionEntry.{MBRPartitionEntry}
-use Rattle.entry.specs.Entry.{entryAt, noEntry}
-use Rattle.ebr.specs.declared.EBRHeader.{EBRHeader}
-use Rattle.ebr.specs.Ebr.{ebrOf}
+use Rattle.base.specs.Said.{Said, gives, refuses, andThen, refusalOf}
+use Rattle.record_entry.specs.declared.MBRPartitionEntry.{MBRPartitionEntry}
+use Rattle.record_entry.specs.Entry.{entryAt, noEntry}
+use Rattle.record_ebr.specs.declared.EBRHeader.{EBRHeader}
+use Rattle.record_ebr.specs.Ebr.{ebrOf}
 use Rattle.extract.specs.Extract.{count, diskSectors, lbaAt, recordAt, recordOf}
-use Rattle.extract.specs.declared.Outcome.{Outcome}
-use Rattle.extract.specs.declared.Outcome.the-variants as outcome
+use Rattle.base.specs.declared.Answer.{Answer}
+use Rattle.base.specs.declared.Answer.the-variants as answers
 use Rattle.table.specs.declared.LogicalPartition.{LogicalPartition}
 use Rattle.table.specs.Table.{slots}
 use Rattle.chain.specs.declared.Head.{Head}
 use Rattle.chain.specs.declared.Met.{Met}
-use Rattle.chain.specs.declared.Met.the-variants.{Shut, Absent, Ebr}
+use Rattle.chain.specs.declared.Met.the-variants.{Refused, Absent, Ebr}
 use Rattle.chain.specs.declared.Reached.{Reached}
 use Rattle.chain.specs.declared.Reached.the-variants as reached
 use Rattle.chain.specs.declared.Follows.{Follows}
@@ -32,14 +32,14 @@ use Rattle.chain.specs.Facts.{at}
 abbrev pub placeOn : ℕ → ℕ → Option ℕ
 placeOn d a = pick (ltb a d) (some a) none
 
-abbrev pub placeSaid : Reached → Option ℕ
-placeSaid reached.Beyond = none
-placeSaid (reached.At a) = some (a .0)
+abbrev pub reachedSaid : Reached → Option ℕ
+reachedSaid reached.Beyond = none
+reachedSaid (reached.At a) = some (a .0)
 
 abbrev pub followsSaid : Follows → Said (Option ℕ)
 followsSaid follow.End = gives none
 followsSaid (follow.Link r) = gives (some (r .0))
-followsSaid (follow.Refused k) = refuses k
+followsSaid (follow.Refused r) = refuses (r .number)
 
 -- the EBR of a head
 abbrev pub ebrIn : List ℕ → Head → EBRHeader
@@ -47,7 +47,7 @@ ebrIn x h = ebrOf (recordAt x (h .number))
 
 -- what is met at a sector: a refusal, a sector without a record, which is blank, or the EBR of a record
 abbrev pub metSaid : List ℕ → Met → Said EBRHeader
-metSaid x (Shut k) = refuses k
+metSaid x (Refused r) = refuses (r .number)
 metSaid x (Absent a) = refuses 3
 metSaid x (Ebr h) = gives (ebrIn x h)
 
@@ -60,7 +60,7 @@ abbrev pub lackOf : List ℕ → ℕ → Option ℕ
 lackOf x a = pick (ltb a (diskSectors x)) (pick (absent x a) (some a) none) none
 
 abbrev pub lackSaid : Met → Option ℕ
-lackSaid (Shut k) = none
+lackSaid (Refused r) = none
 lackSaid (Absent a) = some (a .0)
 lackSaid (Ebr h) = none
 
@@ -73,7 +73,7 @@ pub record HeadAt (x : List ℕ) (a : ℕ) (h : Head) : Type 0 where
   pub link : h .link .0 ≡ ebrIn x h .«partition_2» .«starting_lba»
 
 abbrev pub MetAt : List ℕ → ℕ → Met → Type 0
-MetAt x a (Shut k) = Unit {0}
+MetAt x a (Refused r) = Unit {0}
 MetAt x a (Absent b) = Unit {0}
 MetAt x a (Ebr h) = HeadAt x a h
 
@@ -95,8 +95,8 @@ placesFrom v X m r = andThen (v (X + r)) (places v X m r)
 
 -- the number of EBRs, p of them in front of those that are read; a refusal gives none
 abbrev pub counted : ℕ → Said (List ℕ) → Counted
-counted p (gives ps) = record { answer = outcome.Done; count = p + length ps }
-counted p (refuses k) = record { answer = outcome.Refused (record { number = k }); count = 0 }
+counted p (gives ps) = record { answer = answers.Done; count = p + length ps }
+counted p (refuses k) = record { answer = answers.Refused (refusalOf k); count = 0 }
 
 -- a record number of the extract, of an EBR whose partition's start counted from the disk's fits
 pub record Fit (x : List ℕ) (i : ℕ) : Type 0 where
@@ -114,13 +114,13 @@ NotedAll x is (gives ps) = Noted x is ps
 NotedAll x is (refuses k) = Unit {0}
 
 -- the first m numbers fit
-abbrev pub Fits : List ℕ → ℕ → List ℕ → Type 0
-Fits x m is = (j : ℕ) → j < m → Fit x (getD is j 0)
+abbrev pub AllFit : List ℕ → ℕ → List ℕ → Type 0
+AllFit x m is = (j : ℕ) → j < m → Fit x (getD is j 0)
 
 -- the link to the first EBR, if there is an extended entry
-abbrev pub firstOf : Option MBRPartitionEntry → Link
-firstOf none = firstLink noEntry
-firstOf (some e) = firstLink e
+abbrev pub firstLinkOf : Option MBRPartitionEntry → Link
+firstLinkOf none = firstLink noEntry
+firstLinkOf (some e) = firstLink e
 
 -- the entry of the partition of record number i, its start counted from the disk's
 abbrev pub partIn : List ℕ → ℕ → MBRPartitionEntry
@@ -145,10 +145,10 @@ linkTo x k is j = pick (eqb j 0) k (linkAt x (getD is (j - 1) 0))
 
 -- logical partitions in their slots; a refusal gives none
 pub record Logicals : Type 0 where
-  pub answer : Outcome
+  pub answer : Answer
   pub logicals : List LogicalPartition
   pub count : ℕ
 
 abbrev pub told : Said (List LogicalPartition) → Logicals
-told (gives ls) = record { answer = outcome.Done; logicals = slots ls; count = length ls }
-told (refuses k) = record { answer = outcome.Refused (record { number = k }); logicals = slots []; count = 0 }
+told (gives ls) = record { answer = answers.Done; logicals = slots ls; count = length ls }
+told (refuses k) = record { answer = answers.Refused (refusalOf k); logicals = slots []; count = 0 }

@@ -1,18 +1,23 @@
-// The chain of EBRs in a checked extract: where a link leads, what stands there, and what follows it.
-use ebr::Opened;
-use entry::MBRPartitionEntry;
-use extract::Outcome;
-use extract::Spot;
+// What a chain of EBRs is: where a link leads, an EBR opened, what follows it; an EBR with its link, as it is written.
+// Scope: Reading (per EBR 2, 3, 4, 6, 7, 5; the first forgiven; link fields); Records (a written link). Rules: R, W.
+// For our crates: `open_at`, `what_follows`, `place`, `link_of`, `links::link_to`, `links::ebr_with`.
+pub mod links;
+
+use base::Answer;
+use base::Refusal;
+use extract::ListSpot;
+use record_ebr::Opened;
+use record_entry::MBRPartitionEntry;
 use table::DiskLba;
 use table::LinkLba;
 ghost use mathlib.Core.Path.{_≡_};
 ghost use mathlib.Core.Option.{none};
 ghost use Prim.Native.Nat.{_+_, _-_, _<_};
 ghost use Rattle.base.specs.Checks.{answer};
-ghost use Rattle.ebr.specs.Ebr.{ebrChecks, ebrOf};
+ghost use Rattle.record_ebr.specs.Ebr.{ebrChecks, ebrOf};
 ghost use Rattle.extract.specs.Extract.{Good, count, diskSectors, lbaAt, recordAt, diskOf};
 ghost use Rattle.chain.specs.Chain.{view, follows};
-ghost use Rattle.chain.specs.Walk.{placeOn, placeSaid, followsSaid, metSaid, lackOf, lackSaid, MetAt};
+ghost use Rattle.chain.specs.Walk.{placeOn, reachedSaid, followsSaid, metSaid, lackOf, lackSaid, MetAt};
 
 // Where a link leads: beyond the disk, or to a place on it. A place beyond 32 bits is beyond every disk.
 pub enum Reached {
@@ -28,29 +33,29 @@ pub struct Head {
     pub link: LinkLba,
 }
 
-// What stands at a link's place: a refusal's number, a sector without a record, or an EBR.
+// What stands at a link's place: a refusal, a sector without a record, or an EBR.
 pub enum Met {
-    Shut(u8),
+    Refused(Refusal),
     Absent(DiskLba),
     Ebr(Head),
 }
 
-// What follows an EBR: an end, a link, or a refusal's number.
+// What follows an EBR: an end, a link, or a refusal.
 pub enum Follows {
     End,
     Link(LinkLba),
-    Refused(u8),
+    Refused(Refusal),
 }
 
 // The number of EBRs of a chain, or a refusal and none.
 pub struct Counted {
-    pub answer: Outcome,
+    pub answer: Answer,
     pub count: usize,
 }
 
 // Where a link leads on a disk of d sectors. Nowhere else is a link's place turned into one of the disk.
 pub fn place(d: u32, base: DiskLba, rel: LinkLba) -> Reached
-    ensures { λ r. ⌜ placeSaid r ≡ placeOn d (base .0 + rel .0) ⌝ }
+    ensures { λ r. ⌜ reachedSaid r ≡ placeOn d (base .0 + rel .0) ⌝ }
 {
     let a = base.0 as u64 + rel.0 as u64;
     if d as u64 <= a {
@@ -89,17 +94,18 @@ pub fn place_of(x: &[u8], n: usize, i: usize) -> DiskLba
 pub fn what_follows(left: usize, at: DiskLba, rel: LinkLba, start: u32, link: LinkLba) -> Follows
     ensures { λ r. ⌜ followsSaid r ≡ follows left (at .0) (rel .0) start (link .0) ⌝ }
 {
+    let first = start as u64 + at.0 as u64;
     if left == 0 {
-        return Follows::Refused(6);
+        return Follows::Refused(Refusal::TOO_MANY);
     }
-    if 4294967296 <= start as u64 + at.0 as u64 {
-        return Follows::Refused(7);
+    if 4294967296 <= first {
+        return Follows::Refused(Refusal::ARITHMETIC);
     }
     if link.0 == 0 {
         return Follows::End;
     }
     if link.0 <= rel.0 {
-        return Follows::Refused(5);
+        return Follows::Refused(Refusal::INCONSISTENT_EBR);
     }
     Follows::Link(link)
 }
@@ -112,8 +118,8 @@ fn open_record(x: &[u8], n: usize, i: usize, at: DiskLba) -> Met
     ensures { λ o. ⌜ (lackSaid o ≡ none) × MetAt (now (x .entry)) (at .0) o ⌝ }
 {
     let r = extract::record_at(x, n, i);
-    match ebr::open(r) {
-        Opened::Shut(k) => Met::Shut(k),
+    match record_ebr::open(r) {
+        Opened::Refused(k) => Met::Refused(k),
         Opened::Ebr(e) => {
             let start = e.partition_1.starting_lba;
             let link = e.partition_2.starting_lba;
@@ -135,10 +141,10 @@ pub fn open_at(x: &[u8], n: usize, d: u32, base: DiskLba, rel: LinkLba) -> Met
     ensures { λ o. ⌜ (lackSaid o ≡ lackOf (now (x .entry)) (base .0 + rel .0)) × MetAt (now (x .entry)) (base .0 + rel .0) o ⌝ }
 {
     match place(d, base, rel) {
-        Reached::Beyond => Met::Shut(2),
+        Reached::Beyond => Met::Refused(Refusal::PAST_DISK),
         Reached::At(at) => match extract::seek(x, n, at.0) {
-            Spot::Absent(_) => Met::Absent(at),
-            Spot::Found(i) => open_record(x, n, i, at),
+            ListSpot::Absent(_) => Met::Absent(at),
+            ListSpot::Found(i) => open_record(x, n, i, at),
         },
     }
 }

@@ -14,7 +14,7 @@ use Rattle.base.specs.Bytes.{Record}
 use Rattle.base.proofs.Bytes.{bytes-zeros, bytes-take, bytes-drop}
 use Rattle.extract.specs.Disk.{Disk, Store, stored, after, Same}
 use Rattle.extract.specs.Extract.{sectorSize, diskSectors, count, lbaAt, recordAt, recordsFrom, records, recordIn, recordOf, blank, Good, diskOf}
-use Rattle.extractrules.specs.Rules.{sizeOk}
+use Rattle.extract.specs.Rules.{sizeOk}
 use Rattle.extract.proofs.Good.{good-long, good-size, word-below}
 
 -- a stored sector holds what was stored, every other what it held

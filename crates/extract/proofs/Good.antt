@@ -16,15 +16,15 @@ use Rattle.base.specs.Checks.{Check, _!_, checked, first-fail, AllHold}
 use Rattle.base.proofs.Bytes.{byte-at}
 use Rattle.base.proofs.Checks.{none-fails, all-hold, hold-left, hold-right, onFail, checked-fail, checked-append, append-fails, append-holds}
 use Rattle.extract.specs.Extract.{word, sectorSize, diskSectors, count, listOffset, recordOffset, total, lbaAt, lbasFrom, lbas, ascending, allBelow, lbaChecks, extractChecks, lookChecks, Good}
-use Rattle.extractrules.specs.Rules.{sizeOk, headerChecks}
+use Rattle.extract.specs.Rules.{sizeOk, wordChecks, mostRecords}
 use Rattle.extract.specs.declared.Extract.{Extract}
-use Rattle.extract.specs.declared.Refusal.{Refusal}
+use Rattle.base.specs.declared.Refusal.{Refusal}
 use Rattle.extract.specs.declared.Header.the-variants as header
 use Rattle.extract.specs.Answers.{headerSaid, headerOf, checkSays}
 
 -- the header's rules and the LBAs' rules of an extract
 abbrev pub ofHeader : List ℕ → List Check
-ofHeader x = headerChecks (length x) (sectorSize x) (count x) (listOffset x) (recordOffset x) (total x)
+ofHeader x = wordChecks (length x) (sectorSize x) (count x) (listOffset x) (recordOffset x) (total x)
 
 abbrev pub ofLbas : List ℕ → List Check
 ofLbas x = lbaChecks (diskSectors x) (lbas x)
@@ -60,11 +60,11 @@ says-good x h e f =
 
 -- rules of words that were read
 pub header-words : (x : List ℕ) (a n l r t : ℕ) → a ≡ sectorSize x → n ≡ count x → l ≡ listOffset x → r ≡ recordOffset x → t ≡ total x
-    → first-fail (headerChecks (length x) a n l r t) ≡ first-fail (ofHeader x)
+    → first-fail (wordChecks (length x) a n l r t) ≡ first-fail (ofHeader x)
 header-words x a n l r t e f g h i = rw (e, f, g, h, i)
 
 -- a good header has few records, which the extract holds
-pub header-room : (x : List ℕ) → first-fail (ofHeader x) ≡ none → (count x ≤ 64) × (length x ≡ 24 + count x * 516)
+pub header-room : (x : List ℕ) → first-fail (ofHeader x) ≡ none → (count x ≤ mostRecords) × (length x ≡ 24 + count x * 516)
 header-room x e =
     let k = none-fails (ofHeader x) e in
     (leb-true _ _ (k .1 .0), sym (eqb-true _ _ (k .1 .1 .1 .1 .1 .0)) ∙ eqb-true _ _ (k .1 .1 .1 .1 .0))
@@ -114,7 +114,7 @@ good-lbas : (x : List ℕ) → Good x → AllHold (ofLbas x)
 unfolding extractChecks
 good-lbas x g = hold-right (ofHeader x) (ofLbas x) (g .rules .1)
 
-pub good-few : (x : List ℕ) → Good x → count x ≤ 64
+pub good-few : (x : List ℕ) → Good x → count x ≤ mostRecords
 good-few x g = header-room x (all-hold (ofHeader x) (good-header x g)) .0
 
 pub good-long : (x : List ℕ) → Good x → length x ≡ 24 + count x * 516

@@ -9,9 +9,9 @@ use lib.ListN.{take, drop}
 use borrow.Author.Tests.{eq-eqb, ne-eqb}
 use Rattle.base.specs.Pick.{pick}
 use Rattle.extract.specs.Extract.{count, lbaAt, recordAt, recordsFrom, records, recordIn, Good}
-use Rattle.extract.specs.declared.Spot.{Spot}
-use Rattle.extract.specs.declared.Spot.the-variants.{Found, Absent}
-use Rattle.extract.specs.Spot.{SpotOf}
+use Rattle.extract.specs.declared.ListSpot.{ListSpot}
+use Rattle.extract.specs.declared.ListSpot.the-variants.{Found, Absent}
+use Rattle.extract.specs.ListSpot.{SpotOf}
 use Rattle.extract.proofs.Good.{lba-less}
 
 -- the first m + 1 are lower, if number m is
@@ -77,7 +77,7 @@ lba-unique x g i j p q e = one (decLt i j) (decLt j i)
     one (no h) (no k) = omega arith
 
 -- there is one answer
-pub spot-unique : (x : List ℕ) → Good x → (a : ℕ) (r q : Spot) → SpotOf x (count x) a r → SpotOf x (count x) a q → r ≡ q
+pub spot-unique : (x : List ℕ) → Good x → (a : ℕ) (r q : ListSpot) → SpotOf x (count x) a r → SpotOf x (count x) a q → r ≡ q
 spot-unique x g a (Found i) (Found j) p q = ap Found (lba-unique x g i j (p .0) (q .0) (p .1 ∙ sym (q .1)))
 spot-unique x g a (Found i) (Absent j) p q = absurd (out (decLt i j))
   where

@@ -6,8 +6,8 @@ use native.Mathlib.Omega.{arith}
 use lib.Pow.{shl-exact}
 use lib.Count.{trailingZeros}
 use Rattle.base.specs.Said.{gives}
-use Rattle.extractrules.specs.Rules.{sizeOk}
-use Rattle.extractrules.proofs.Size.{shift-size}
+use Rattle.extract.specs.Rules.{sizeOk}
+use Rattle.extract.proofs.header_rules.Size.{shift-size}
 use Rattle.extract.specs.Answers.{placeSays}
 
 -- an LBA shifted is within 64 bits: nothing is lost

@@ -8,7 +8,7 @@ use Rattle.base.specs.Pick.{pick}
 use Rattle.base.specs.Bytes.{Bytes, number, bytesAt, little}
 use Rattle.base.specs.Checks.{Check, _!_, checked, AllHold}
 use Rattle.extract.specs.Disk.{Disk, Store}
-pub use Rattle.extractrules.specs.Rules.{sizeOk, mostRecords, headerChecks}
+pub use Rattle.extract.specs.Rules.{sizeOk, mostRecords, wordChecks}
 
 -- the little-endian u32 at a byte offset
 unfoldable pub word : List ℕ → ℕ → ℕ
@@ -37,7 +37,7 @@ total x = word x 20
 abbrev pub lbaAt : List ℕ → ℕ → ℕ
 lbaAt x i = word x (24 + i * 4)
 
--- record number i (rule X14)
+-- record number i (rule X13)
 unfoldable pub recordAt : List ℕ → ℕ → List ℕ
 recordAt x i = take 512 (drop (24 + count x * 4 + i * 512) x)
 
@@ -65,7 +65,7 @@ ascending [] = true
 ascending (a ∷ []) = true
 ascending (a ∷ b ∷ ls) = pick (ltb a b) (ascending (b ∷ ls)) false
 
--- numbers that are all below d (rule X12)
+-- numbers that are all below d (rule X11)
 unfoldable pub allBelow : ℕ → List ℕ → Bool
 allBelow d [] = true
 allBelow d (a ∷ ls) = pick (ltb a d) (allBelow d ls) false
@@ -77,11 +77,11 @@ lbaChecks d ls =
     (1 ! allBelow d ls) ∷
     []
 
--- the rules, in their order (rule X2)
+-- the rules, in their order (rule X1)
 unfoldable pub extractChecks : List ℕ → List Check
 extractChecks x =
     (1 ! leb 24 (length x)) ∷
-    headerChecks (length x) (sectorSize x) (count x) (listOffset x) (recordOffset x) (total x) ++
+    wordChecks (length x) (sectorSize x) (count x) (listOffset x) (recordOffset x) (total x) ++
     lbaChecks (diskSectors x) (lbas x)
 
 -- what a function that works on an extract may require: the rules hold, and its elements are bytes
@@ -106,10 +106,10 @@ blank = replicate 512 0
 unfoldable pub diskOf : List ℕ → Disk
 diskOf x = record { width = sectorSize x; size = diskSectors x; sector = recordIn blank (records x) }
 
--- the refusals of a lookup, in their order (rules X19 and X20)
+-- the refusals of a lookup, in their order (rule X19)
 unfoldable pub lookChecks : List ℕ → ℕ → List Check
 lookChecks x a = extractChecks x ++ (2 ! ltb a (diskSectors x)) ∷ []
 
--- what a lookup answers: the record; empty if absent or refused (rules X17 and X18)
+-- what a lookup answers: the record; empty if absent or refused (rule X16)
 abbrev pub lookedUp : List ℕ → ℕ → List ℕ
 lookedUp x a = checked (lookChecks x a) (λ k. []) (recordOf x a)

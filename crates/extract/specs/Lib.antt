@@ -1,4 +1,7 @@
+pub mod Rules
 pub mod Disk
 pub mod Extract
 pub mod Answers
-pub mod Spot
+pub mod ListSpot
+pub mod Cut
+pub mod Header

@@ -1,18 +1,30 @@
-// The extract: a header of 24 bytes, n LBAs, n records of 512 bytes; and the disk that it stands for.
+// The extract: a header, n LBAs, n records; the disk that it stands for.
+// Scope: The extract (its rules, LBAs ascend, looking a record up, a disk after stores); module 3. Rules: X.
+// For callers: `check`, `look_up_record::look_up`, `look_up_record::look_up_answer`, `byte_place`.
+pub mod header_out;
+pub mod header_rules;
+pub mod list_out;
+pub mod look_up_record;
+pub mod records_out;
+
 use base::Answer;
+use base::Refusal;
 ghost use mathlib.Core.Path.{_≡_};
 ghost use Prim.Native.Nat.{_+_, _*_, _≤_, _<_};
 ghost use lib.ListN.{length};
+ghost use Rattle.base.specs.Said.{refusal};
 ghost use Rattle.extract.specs.Extract.{Good, word, count, lbasFrom, lbaAt, lbaChecks, recordAt, recordOf};
 ghost use Rattle.base.specs.Bytes.{Bytes};
 ghost use Rattle.base.specs.Checks.{first-fail};
-ghost use Rattle.extract.specs.Spot.{SpotOf};
-ghost use Rattle.extract.specs.Answers.{headerSaid, checkSays, outcomeSaid, placeSaid, placeSays};
+ghost use Rattle.extract.specs.ListSpot.{SpotOf};
+ghost use Rattle.extract.specs.Answers.{headerSaid, checkSays, bytePlaceSaid, placeSays};
+ghost use Rattle.extract.specs.Rules.{mostRecords};
 
-// Why a call is refused: the refusal's number.
-pub struct Refusal {
-    pub number: u8,
-}
+// The most records of an extract.
+pub const RECORDS: usize = 64;
+
+// The bytes of an extract with so many.
+pub const LARGEST: usize = 24 + 516 * RECORDS;
 
 // What the header of a checked extract says.
 pub struct Extract {
@@ -27,20 +39,14 @@ pub enum Header {
     Refused(Refusal),
 }
 
-// What a call without a value says.
-pub enum Outcome {
-    Done,
-    Refused(Refusal),
-}
-
 // A place on the disk in bytes.
-pub enum Place {
+pub enum BytePlace {
     At(u64),
     Refused(Refusal),
 }
 
 // Where an LBA stands in the list: at a number, or before the one of a number.
-pub enum Spot {
+pub enum ListSpot {
     Found(usize),
     Absent(usize),
 }
@@ -54,33 +60,33 @@ fn word_at(x: &[u8], at: usize) -> u32
 }
 
 // Where an LBA starts on the disk, in bytes: the LBA shifted by the trailing zeros of the sector size.
-pub fn byte_place(sector_size: u32, lba: u32) -> Place
-    ensures { λ r. ⌜ placeSaid r ≡ placeSays «sector_size» lba ⌝ }
+pub fn byte_place(sector_size: u32, lba: u32) -> BytePlace
+    ensures { λ r. ⌜ bytePlaceSaid r ≡ placeSays «sector_size» lba ⌝ }
 {
-    if extractrules::size_ok(sector_size) {
-        Place::At((lba as u64) << u32::trailing_zeros(sector_size))
+    if crate::header_rules::size_ok(sector_size) {
+        BytePlace::At((lba as u64) << u32::trailing_zeros(sector_size))
     } else {
-        Place::Refused(Refusal { number: 1 })
+        BytePlace::Refused(Refusal::BAD_EXTRACT)
     }
 }
 
 // The rules of the n LBAs: they ascend strictly, and are below the end of the disk. Each is read once.
-fn lba_rules(x: &[u8], n: usize, disk: u32) -> Outcome
-    requires { ⌜ (n ≤ 64) × (24 + n * 4 ≤ length (now x)) ⌝ }
-    ensures { λ r. ⌜ outcomeSaid r ≡ first-fail (lbaChecks disk (lbasFrom (now (x .entry)) 0 n)) ⌝ }
+fn lba_rules(x: &[u8], n: usize, disk: u32) -> Answer
+    requires { ⌜ (n ≤ mostRecords) × (24 + n * 4 ≤ length (now x)) ⌝ }
+    ensures { λ r. ⌜ refusal r ≡ first-fail (lbaChecks disk (lbasFrom (now (x .entry)) 0 n)) ⌝ }
 {
     let mut next: u64 = 0;
     for i in 0..n {
         let lba = word_at(x, 24 + i * 4) as u64;
         if lba < next {
-            return Outcome::Refused(Refusal { number: 1 });
+            return Answer::Refused(Refusal::BAD_EXTRACT);
         }
         next = lba + 1;
     }
     if (disk as u64) < next {
-        return Outcome::Refused(Refusal { number: 1 });
+        return Answer::Refused(Refusal::BAD_EXTRACT);
     }
-    Outcome::Done
+    Answer::Done
 }
 
 // The rules of an extract, in their order. Each byte of the header and of the LBA list is read once.
@@ -90,7 +96,7 @@ pub fn check(x: &[u8]) -> Header
 {
     let long = x.len();
     if long < 24 {
-        return Header::Refused(Refusal { number: 1 });
+        return Header::Refused(Refusal::BAD_EXTRACT);
     }
     let size = word_at(x, 0);
     let disk = word_at(x, 4);
@@ -98,11 +104,11 @@ pub fn check(x: &[u8]) -> Header
     let list = word_at(x, 12) as usize;
     let records = word_at(x, 16) as usize;
     let total = word_at(x, 20) as usize;
-    match extractrules::header_rules(long, size, n, list, records, total) {
-        Answer::Refused(k) => Header::Refused(Refusal { number: k }),
+    match crate::header_rules::header_rules(long, size, n, list, records, total) {
+        Answer::Refused(k) => Header::Refused(k),
         Answer::Done => match lba_rules(x, n, disk) {
-            Outcome::Refused(r) => Header::Refused(r),
-            Outcome::Done => Header::Good(Extract {
+            Answer::Refused(r) => Header::Refused(r),
+            Answer::Done => Header::Good(Extract {
                 sector_size: size,
                 disk_size: disk,
                 count: n,
@@ -111,8 +117,8 @@ pub fn check(x: &[u8]) -> Header
     }
 }
 
-// Where an LBA stands among those of a checked extract. Each turn halves the at most 64 in question: at most 7 are looked at.
-pub fn seek(x: &[u8], n: usize, lba: u32) -> Spot
+// Where an LBA stands among those of a checked extract. Each turn halves those in question.
+pub fn seek(x: &[u8], n: usize, lba: u32) -> ListSpot
     requires { ⌜ (n ≡ count (now x)) × Good (now x) ⌝ }
     ensures { λ r. ⌜ SpotOf (now (x .entry)) n lba r ⌝ }
 {
@@ -122,7 +128,7 @@ pub fn seek(x: &[u8], n: usize, lba: u32) -> Spot
         let mid = lo + (hi - lo) / 2;
         let a = word_at(x, 24 + mid * 4);
         if a == lba {
-            return Spot::Found(mid);
+            return ListSpot::Found(mid);
         }
         if a < lba {
             lo = mid + 1;
@@ -130,7 +136,7 @@ pub fn seek(x: &[u8], n: usize, lba: u32) -> Spot
             hi = mid;
         }
     }
-    Spot::Absent(lo)
+    ListSpot::Absent(lo)
 }
 
 // LBA number i of a checked extract.
@@ -158,7 +164,7 @@ pub fn record_of<'a>(x: &'a [u8], n: usize, lba: u32) -> &'a [u8]
     ensures { λ r. ⌜ now r ≡ recordOf (now (x .entry)) lba ⌝ }
 {
     match seek(x, n, lba) {
-        Spot::Absent(_) => &x[0..0],
-        Spot::Found(i) => record_at(x, n, i),
+        ListSpot::Absent(_) => &x[0..0],
+        ListSpot::Found(i) => record_at(x, n, i),
     }
 }

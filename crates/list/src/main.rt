@@ -1,4 +1,5 @@
-// Reads an extract on standard input and writes the listing of its table.
+// A program: reads an extract on standard input and writes the listing of its table.
+// Scope: Numbers to hold (the listing program, for K).
 fn main() {
-    listprint::list_input();
+    list_print::list_input();
 }

@@ -1,4 +1,5 @@
-// The program `list`, run on a disk of 24 logical partitions, with types and flags in hex capitals.
+// The program `list`, run on a disk with as many logical partitions as can be, types and flags in hex capitals.
+// Scope: Numbers to hold (the listing program: two hex digits, capitals).
 fn main() {
-    listprint::list_input();
+    list_print::list_input();
 }

@@ -1,4 +1,5 @@
-// The program `list`, run on a disk that reading refuses: a 25th logical partition.
+// The program `list`, run on a disk that reading refuses: one logical partition too many.
+// Scope: Numbers to hold (the listing program: a refusal prints its number only).
 fn main() {
-    listprint::list_input();
+    list_print::list_input();
 }

@@ -11,16 +11,17 @@ use borrow.Author.Tests.{eqb-true}
 use Rattle.base.specs.Pick.{pick, among}
 use Rattle.base.specs.Row.{Row, next}
 use Rattle.base.proofs.Row.{row-map}
-use Rattle.entry.specs.declared.MBRPartitionEntry.{MBRPartitionEntry}
-use Rattle.entry.specs.Entry.{used, extended, endOf}
-use Rattle.mbr.specs.Mbr.{extendedOf}
+use Rattle.base.specs.All.{All}
+use Rattle.record_entry.specs.declared.MBRPartitionEntry.{MBRPartitionEntry}
+use Rattle.record_entry.specs.Entry.{used, extended, endOf}
+use Rattle.record_mbr.specs.Mbr.{extendedOf}
 use Rattle.table.specs.declared.MaybeSectors.{MaybeSectors}
 use Rattle.table.specs.declared.MaybeSectors.the-variants.{Absent, Present}
 use Rattle.table.specs.declared.LogicalPartition.{LogicalPartition}
 use Rattle.table.specs.Table.{parts}
 use Rattle.chain.specs.Facts.{at, start, Before}
-use Rattle.sound.specs.Is.{All, later}
-use Rattle.sound.specs.Sound.{Contents, primariesOf, extendedIn, areaStart, areaEnd, end, bound, Flagged, EntryChs, LogicalChs, Used, Extended, EndsBy, FirstAt, OfLink, Sound}
+use Rattle.sound.specs.Is.{later}
+use Rattle.sound.specs.Sound.{Contents, primariesOf, extendedEntry, areaStart, areaEnd, end, bound, Flagged, EntryChs, LogicalChs, Used, Extended, EndsBy, FirstAt, OfLink, Sound}
 
 -- the rules of a logical partition by itself
 pub record Own (l : LogicalPartition) : Type 0 where
@@ -85,11 +86,11 @@ good-row hi l (m ∷ ms) f c u p s a e i j k = (
   good-row hi m ms (f .1) (c .1) (u .1) (p .1) (s .1) (a .1) (e .1) (i .1) (j .1) (k .1),
 )
 
-pub sound-first : (t : Contents) (e : MBRPartitionEntry) → Sound t → extendedIn t ≡ some e → FirstAt (e .«starting_lba») (t .logicals)
+pub sound-first : (t : Contents) (e : MBRPartitionEntry) → Sound t → extendedEntry t ≡ some e → FirstAt (e .«starting_lba») (t .logicals)
 unfolding areaStart
 sound-first t e s x = rw x at (s .first)
 
-pub sound-row : (t : Contents) (e : MBRPartitionEntry) → Sound t → extendedIn t ≡ some e → Row (Good (endOf e)) (t .logicals) none
+pub sound-row : (t : Contents) (e : MBRPartitionEntry) → Sound t → extendedEntry t ≡ some e → Row (Good (endOf e)) (t .logicals) none
 unfolding areaEnd
 sound-row t e s x = go (t .logicals) (s .flags .1) (s .addresses .1) (s .used) (s .plain) (s .sized) (s .behind) (rw x at (s .ends)) (s .link-sized) (rw x at (s .link-ends)) (s .link-covers)
   where
@@ -127,7 +128,7 @@ module _ (hi : ℕ) where
   before-good l (some m) g = omega (arith, g .place .after, g .ends)
 
   -- a sound table's chain may be exchanged for any row of good ones
-  pub resound : (t : Contents) (e : MBRPartitionEntry) → endOf e ≡ hi → Sound t → extendedIn t ≡ some e → (ls : List LogicalPartition)
+  pub resound : (t : Contents) (e : MBRPartitionEntry) → endOf e ≡ hi → Sound t → extendedEntry t ≡ some e → (ls : List LogicalPartition)
       → FirstAt (e .«starting_lba») ls → Row (Good hi) ls none → Sound (record { width = t .width; size = t .size; header = t .header; logicals = ls })
   unfolding areaStart areaEnd
   resound t e h s x ls f g = record {
@@ -200,7 +201,7 @@ module _ (P : MBRPartitionEntry → Type 0) (e : MBRPartitionEntry) where
       go ih (inl q) = (subst P (q .0) (a .0), subst Extended (q .0) (q .1))
       go ih (inr q) = ih (q .1)
 
-pub area-of : (t : Contents) (e : MBRPartitionEntry) → Sound t → extendedIn t ≡ some e → Area (t .size) e
+pub area-of : (t : Contents) (e : MBRPartitionEntry) → Sound t → extendedEntry t ≡ some e → Area (t .size) e
 area-of t e s x =
     let a = ext-all (λ p. Used p → 1 ≤ p .«starting_lba») e (primariesOf t) (s .starts) x in
     let b = ext-all (λ p. Used p → 1 ≤ p .sectors) e (primariesOf t) (s .sizes) x in

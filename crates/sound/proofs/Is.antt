@@ -9,7 +9,8 @@ use native.Mathlib.Omega.{arith}
 use lib.Dec.{ltb, leb, eqb}
 use borrow.Author.Tests.{ltb-true, leb-true, eqb-true, lt-ltb, le-leb, eq-eqb}
 use Rattle.base.specs.Row.{Row, next}
-use Rattle.sound.specs.Is.{Is, All, allb, Pairs, pairsb, rowb}
+use Rattle.base.specs.All.{All, allb}
+use Rattle.sound.specs.Is.{Is, Pairs, pairsb, rowb}
 
 not-so : {A : Type 0} → false ≡ true → A
 not-so h = let w : _≡_ {A = ℕ} 0 1 = cc in absurd (omega arith)

@@ -9,9 +9,9 @@ use lib.Dec.{leb, eqb}
 use lib.ListN.{getD}
 use Rattle.base.specs.Pick.{pick}
 use Rattle.base.specs.Checks.{Check, checked, AllHold}
-use Rattle.chs.specs.declared.CHS.{CHS}
-use Rattle.entry.specs.declared.MBRPartitionEntry.{MBRPartitionEntry}
-use Rattle.entry.specs.Entry.{flagOk, used, extended, endOf}
+use Rattle.record_chs.specs.declared.CHS.{CHS}
+use Rattle.record_entry.specs.declared.MBRPartitionEntry.{MBRPartitionEntry}
+use Rattle.record_entry.specs.Entry.{flagOk, used, extended, endOf}
 use Rattle.table.specs.declared.MaybeSectors.{MaybeSectors}
 use Rattle.table.specs.declared.MaybeSectors.the-variants.{Absent, Present}
 use Rattle.table.specs.declared.MaybeChs.{MaybeChs}
@@ -20,7 +20,7 @@ use Rattle.table.specs.declared.LogicalPartition.{LogicalPartition}
 use Rattle.table.specs.Table.{parts}
 use Rattle.chain.specs.Facts.{at, start, Before}
 use Rattle.sound.specs.Is.{Is, later}
-use Rattle.sound.specs.Sound.{Contents, primariesOf, extendedIn, areaStart, areaEnd, end, bound, Signed, signedb, Flagged, Flags, flagsb, Within, withinb, IfThere, ifThereb, EntryChs, entryChsb, LogicalChs, logicalChsb, Addresses, addressesb, Starts, startsb, Sizes, sizesb, OnDisk, onDiskb, Apart, apartb, AllApart, allApartb, NotBoth, notBothb, OneExtended, oneExtendedb, Owned, ownedb, LogicalsUsed, logicalsUsedb, LogicalsPlain, logicalsPlainb, LogicalsSized, logicalsSizedb, AfterEbr, afterEbrb, Ends, endsb, FirstAt, firstAtb, Ascend, beforeb, ascendb, OfLink, ofLinkb, LinksSized, linksSizedb, LinksEnd, linksEndb, LinksCover, linksCoverb, Sound, soundRules, soundb}
+use Rattle.sound.specs.Sound.{Contents, primariesOf, extendedEntry, areaStart, areaEnd, end, bound, Signed, signedb, Flagged, Flags, flagsb, Within, withinb, IfThere, ifThereb, EntryChs, entryChsb, LogicalChs, logicalChsb, Addresses, addressesb, Starts, startsb, Sizes, sizesb, OnDisk, onDiskb, Apart, apartb, AllApart, allApartb, NotBoth, notBothb, OneExtended, oneExtendedb, Owned, ownedb, LogicalsUsed, logicalsUsedb, LogicalsPlain, logicalsPlainb, LogicalsSized, logicalsSizedb, AfterEbr, afterEbrb, Ends, endsb, FirstAt, firstAtb, Ascend, beforeb, ascendb, OfLink, ofLinkb, LinksSized, linksSizedb, LinksEnd, linksEndb, LinksCover, linksCoverb, Sound, soundRules, soundb}
 use Rattle.sound.proofs.Is.{is-lt, is-le, is-eq, is-true, is-unit, is-never, is-not, is-and, is-or, is-if, is-as, is-all, is-pairs, is-row}
 
 pub is-flag : (e : MBRPartitionEntry) → Is (Flagged e) (flagOk e)
@@ -124,7 +124,7 @@ module _ (t : Contents) where
 
   pub is-ends : Is (Ends t) (endsb t)
   unfolding endsb
-  is-ends = is-row _ _ (λ l n. is-le (end l) (bound (areaEnd (extendedIn t)) n)) (t .logicals) none
+  is-ends = is-row _ _ (λ l n. is-le (end l) (bound (areaEnd (extendedEntry t)) n)) (t .logicals) none
 
   pub is-ascend : Is (Ascend t) (ascendb t)
   unfolding ascendb
@@ -136,7 +136,7 @@ module _ (t : Contents) where
 
   pub is-links-end : Is (LinksEnd t) (linksEndb t)
   unfolding linksEndb
-  is-links-end = is-all _ _ (λ l. is-link _ _ _ _ (λ n. is-le (at l + n) (areaEnd (extendedIn t))) is-unit (l .«ebr_sectors»)) (later (t .logicals))
+  is-links-end = is-all _ _ (λ l. is-link _ _ _ _ (λ n. is-le (at l + n) (areaEnd (extendedEntry t))) is-unit (l .«ebr_sectors»)) (later (t .logicals))
 
   pub is-links-cover : Is (LinksCover t) (linksCoverb t)
   unfolding linksCoverb
@@ -163,13 +163,13 @@ module _ (t : Contents) where
     on-disk = is-on-disk t .to f;
     apart = is-all-apart t .to g;
     one = is-one t .to h;
-    owned = is-owned (extendedIn t) (t .logicals) .to i;
+    owned = is-owned (extendedEntry t) (t .logicals) .to i;
     used = is-used t .to j;
     plain = is-plain t .to k;
     sized = is-sized t .to l;
     behind = is-after t .to m;
     ends = is-ends t .to n;
-    first = is-first (areaStart (extendedIn t)) (t .logicals) .to o;
+    first = is-first (areaStart (extendedEntry t)) (t .logicals) .to o;
     ascend = is-ascend t .to p;
     link-sized = is-links-sized t .to q;
     link-ends = is-links-end t .to r;
@@ -178,7 +178,7 @@ module _ (t : Contents) where
 
   pub sound→rules : Sound t → AllHold (soundRules t)
   unfolding soundRules
-  sound→rules s = (is-signed t .from (s .signed), (is-flags t .from (s .flags), (is-addresses t .from (s .addresses), (is-starts t .from (s .starts), (is-sizes t .from (s .sizes), (is-on-disk t .from (s .on-disk), (is-all-apart t .from (s .apart), (is-one t .from (s .one), (is-owned (extendedIn t) (t .logicals) .from (s .owned), (is-used t .from (s .used), (is-plain t .from (s .plain), (is-sized t .from (s .sized), (is-after t .from (s .behind), (is-ends t .from (s .ends), (is-first (areaStart (extendedIn t)) (t .logicals) .from (s .first), (is-ascend t .from (s .ascend), (is-links-sized t .from (s .link-sized), (is-links-end t .from (s .link-ends), (is-links-cover t .from (s .link-covers), tt)))))))))))))))))))
+  sound→rules s = (is-signed t .from (s .signed), (is-flags t .from (s .flags), (is-addresses t .from (s .addresses), (is-starts t .from (s .starts), (is-sizes t .from (s .sizes), (is-on-disk t .from (s .on-disk), (is-all-apart t .from (s .apart), (is-one t .from (s .one), (is-owned (extendedEntry t) (t .logicals) .from (s .owned), (is-used t .from (s .used), (is-plain t .from (s .plain), (is-sized t .from (s .sized), (is-after t .from (s .behind), (is-ends t .from (s .ends), (is-first (areaStart (extendedEntry t)) (t .logicals) .from (s .first), (is-ascend t .from (s .ascend), (is-links-sized t .from (s .link-sized), (is-links-end t .from (s .link-ends), (is-links-cover t .from (s .link-covers), tt)))))))))))))))))))
 
   pub is-sound : Is (Sound t) (soundb t)
   unfolding soundb

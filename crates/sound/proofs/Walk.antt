@@ -11,15 +11,16 @@ use lib.ListN.{length, getD, take, drop, drop-of-length-le}
 use lib.Seq.{length-take-le, drop-cons, getD-take}
 use borrow.Author.Tests.{ne-eqb}
 use Rattle.base.specs.Row.{Row}
-use Rattle.entry.specs.declared.MBRPartitionEntry.{MBRPartitionEntry}
-use Rattle.entry.specs.Entry.{used, extended, endOf}
+use Rattle.base.specs.All.{All}
+use Rattle.record_entry.specs.declared.MBRPartitionEntry.{MBRPartitionEntry}
+use Rattle.record_entry.specs.Entry.{used, extended, endOf}
 use Rattle.table.specs.declared.MaybeSectors.{MaybeSectors}
 use Rattle.table.specs.declared.MaybeSectors.the-variants.{Absent, Present}
 use Rattle.table.specs.declared.LogicalPartition.{LogicalPartition}
 use Rattle.table.specs.Table.{noLogical}
 use Rattle.chain.specs.Facts.{at, start}
-use Rattle.sound.specs.Is.{Is, All, Pairs}
-use Rattle.sound.specs.Sound.{Contents, primariesOf, extendedIn, end, Signed, Flagged, EntryChs, LogicalChs, Used, Apart, Extended, NotBoth, Owned, FirstAt, OfLink, Sound, soundb}
+use Rattle.sound.specs.Is.{Is, Pairs}
+use Rattle.sound.specs.Sound.{Contents, primariesOf, extendedEntry, end, Signed, Flagged, EntryChs, LogicalChs, Used, Apart, Extended, NotBoth, Owned, FirstAt, OfLink, Sound, soundb}
 use Rattle.sound.specs.Walk.{spanb, primaryb, pairb, ownb, placeb, coverb, linkb, turnb, standb, rowsb, chainb, walkb}
 use Rattle.sound.proofs.Is.{is-lt, is-le, is-eq, is-true, is-unit, is-never, is-not, is-and, is-if, is-all, is-pairs}
 use Rattle.sound.proofs.Test.{is-flag, is-entry-chs, is-logical-chs, is-apart, is-not-both, is-link, is-signed, is-sound}
@@ -120,14 +121,14 @@ is-chain none (l ∷ ls) = is-never
 is-chain (some e) ls = is-rows (endOf e) true (e .«starting_lba») ls
 
 abbrev Walk : Contents → Type 0
-Walk t = Signed t × (All (Primary (t .size)) (primariesOf t) × (Pairs Pair (primariesOf t) × Chain (extendedIn t) (t .logicals)))
+Walk t = Signed t × (All (Primary (t .size)) (primariesOf t) × (Pairs Pair (primariesOf t) × Chain (extendedEntry t) (t .logicals)))
 
 is-walk : (t : Contents) → Is (Walk t) (walkb t)
 unfolding walkb
 is-walk t =
     is-and _ _ _ _ (is-signed t)
     (is-and _ _ _ _ (is-all (Primary (t .size)) (primaryb (t .size)) (is-primary (t .size)) (primariesOf t))
-    (is-and _ _ _ _ (is-pairs Pair pairb is-pair (primariesOf t)) (is-chain (extendedIn t) (t .logicals))))
+    (is-and _ _ _ _ (is-pairs Pair pairb is-pair (primariesOf t)) (is-chain (extendedEntry t) (t .logicals))))
 
 -- a chain as a row of good partitions, both ways
 span-in : (hi : ℕ) (m : LogicalPartition) → Link hi m → Span hi m
@@ -211,7 +212,7 @@ module _ (t : Contents) where
     on-disk = all-map (Primary (t .size)) (λ e. Used e → endOf e ≤ t .size) (λ e k u. k .1 .1 u .1 .1) (primariesOf t) a;
     apart = pairs-map Pair Apart (λ e f k. k .0) (primariesOf t) p;
     one = pairs-map Pair NotBoth (λ e f k. k .1) (primariesOf t) p;
-    owned = owned-none (extendedIn t);
+    owned = owned-none (extendedEntry t);
     used = tt;
     plain = tt;
     sized = tt;
@@ -224,14 +225,14 @@ module _ (t : Contents) where
     link-covers = tt;
   }
 
-  chain-sound : (o : Option MBRPartitionEntry) → extendedIn t ≡ o → Sound (bare t) → (ls : List LogicalPartition) → Chain o ls
+  chain-sound : (o : Option MBRPartitionEntry) → extendedEntry t ≡ o → Sound (bare t) → (ls : List LogicalPartition) → Chain o ls
       → Sound (record { width = t .width; size = t .size; header = t .header; logicals = ls })
   chain-sound none x s [] k = s
   chain-sound none x s (l ∷ ls) k = absurd k
   chain-sound (some e) x s ls k =
       resound (endOf e) (bare t) e refl s x ls (rows-first (endOf e) (e .«starting_lba») ls k) (rows→good (endOf e) true (e .«starting_lba») ls k)
 
-  sound-chain : (o : Option MBRPartitionEntry) → extendedIn t ≡ o → Sound t → Chain o (t .logicals)
+  sound-chain : (o : Option MBRPartitionEntry) → extendedEntry t ≡ o → Sound t → Chain o (t .logicals)
   sound-chain none x s = go (t .logicals) (rw x at (s .owned))
     where
       go : (ls : List LogicalPartition) → Owned none ls → Chain none ls
@@ -240,7 +241,7 @@ module _ (t : Contents) where
   sound-chain (some e) x s = first-rows e (t .logicals) (sound-first t e s x) (sound-row t e s x)
 
   walk→sound : Walk t → Sound t
-  walk→sound (s, (a, (p, k))) = chain-sound (extendedIn t) refl (bare-sound s a p) (t .logicals) k
+  walk→sound (s, (a, (p, k))) = chain-sound (extendedEntry t) refl (bare-sound s a p) (t .logicals) k
 
   spans : Sound t → All (λ e. Used e → InSpan (t .size) e) (primariesOf t)
   spans s =
@@ -255,7 +256,7 @@ module _ (t : Contents) where
     (
       all-and Flagged (λ e. EntryChs e × (Used e → InSpan (t .size) e)) (primariesOf t) (s .flags .0)
           (all-and EntryChs (λ e. Used e → InSpan (t .size) e) (primariesOf t) (s .addresses .0) (spans s)),
-      (pairs-and Apart NotBoth (primariesOf t) (s .apart) (s .one), sound-chain (extendedIn t) refl s),
+      (pairs-and Apart NotBoth (primariesOf t) (s .apart) (s .one), sound-chain (extendedEntry t) refl s),
     ),
   )
 

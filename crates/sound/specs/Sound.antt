@@ -7,24 +7,25 @@ use mathlib.Core.Option.{Option, none, some, Option·getD}
 use mathlib.Core.List.{List, [], _∷_}
 use lib.Dec.{ltb, leb, eqb}
 use lib.ListN.{getD}
-use Rattle.base.specs.Bytes.{standsAt}
+use Rattle.base.specs.Bytes.{standsAt, signature}
 use Rattle.base.specs.Said.{Said}
 use Rattle.base.specs.Checks.{Check, _!_, checked, answer}
 use Rattle.base.specs.Row.{Row}
-use Rattle.chs.specs.declared.CHS.{CHS}
-use Rattle.entry.specs.declared.MBRPartitionEntry.{MBRPartitionEntry}
-use Rattle.entry.specs.Entry.{noEntry, flagOk, used, extended, endOf}
-use Rattle.mbr.specs.declared.MBRHeader.{MBRHeader}
-use Rattle.mbr.specs.Mbr.{primaries, extendedOf, signature}
+use Rattle.base.specs.All.{All, allb}
+use Rattle.record_chs.specs.declared.CHS.{CHS}
+use Rattle.record_entry.specs.declared.MBRPartitionEntry.{MBRPartitionEntry}
+use Rattle.record_entry.specs.Entry.{noEntry, flagOk, used, extended, endOf}
+use Rattle.record_mbr.specs.declared.MBRHeader.{MBRHeader}
+use Rattle.record_mbr.specs.Mbr.{primaries, extendedOf}
 use Rattle.table.specs.declared.MaybeSectors.{MaybeSectors}
 use Rattle.table.specs.declared.MaybeSectors.the-variants.{Absent, Present}
 use Rattle.table.specs.declared.MaybeChs.{MaybeChs}
 use Rattle.table.specs.declared.MaybeChs.the-variants.{Absent as NoChs, Present as SomeChs}
 use Rattle.table.specs.declared.LogicalPartition.{LogicalPartition}
 use Rattle.table.specs.declared.MBR.{MBR}
-use Rattle.table.specs.Table.{most, logicals, parts}
+use Rattle.table.specs.Table.{countCheck, logicals, parts}
 use Rattle.chain.specs.Facts.{at, start, Before}
-use Rattle.sound.specs.Is.{All, allb, Pairs, pairsb, rowb, later}
+use Rattle.sound.specs.Is.{Pairs, pairsb, rowb, later}
 
 -- a table as a disk holds it: sector size, D, header, logical partitions
 pub record Contents : Type 0 where
@@ -40,8 +41,8 @@ contentsOf t = record { width = t .«sector_size»; size = t .«disk_size»; hea
 abbrev pub primariesOf : Contents → List MBRPartitionEntry
 primariesOf t = primaries (t .header)
 
-abbrev pub extendedIn : Contents → Option MBRPartitionEntry
-extendedIn t = extendedOf (primariesOf t)
+abbrev pub extendedEntry : Contents → Option MBRPartitionEntry
+extendedEntry t = extendedOf (primariesOf t)
 
 -- the extended partition's start X and end
 unfoldable pub areaStart : Option MBRPartitionEntry → ℕ
@@ -68,7 +69,7 @@ Flagged e = (e .boot ≡ 0) ⊎ (e .boot ≡ 128)
 abbrev pub Flags : Contents → Type 0
 Flags t = All Flagged (primariesOf t) × All Flagged (parts (t .logicals))
 
--- rule S24
+-- rule S2
 unfoldable pub flagsb : Contents → Bool
 flagsb t = allb flagOk (primariesOf t) && allb flagOk (parts (t .logicals))
 
@@ -76,7 +77,7 @@ flagsb t = allb flagOk (primariesOf t) && allb flagOk (parts (t .logicals))
 abbrev pub Within : CHS → Type 0
 Within c = (c .cylinder ≤ 1023) × (c .sector ≤ 63)
 
--- rule S20
+-- rule S3
 abbrev pub withinb : CHS → Bool
 withinb c = leb (c .cylinder) 1023 && leb (c .sector) 63
 
@@ -84,7 +85,7 @@ abbrev pub IfThere : MaybeChs → Type 0
 IfThere NoChs = Unit {0}
 IfThere (SomeChs c) = Within c
 
--- rule S23
+-- rule S3
 abbrev pub ifThereb : MaybeChs → Bool
 ifThereb NoChs = true
 ifThereb (SomeChs c) = withinb c
@@ -92,14 +93,14 @@ ifThereb (SomeChs c) = withinb c
 abbrev pub EntryChs : MBRPartitionEntry → Type 0
 EntryChs e = Within (e .«first_chs») × Within (e .«last_chs»)
 
--- rule S21
+-- rule S3
 abbrev pub entryChsb : MBRPartitionEntry → Bool
 entryChsb e = withinb (e .«first_chs») && withinb (e .«last_chs»)
 
 abbrev pub LogicalChs : LogicalPartition → Type 0
 LogicalChs l = EntryChs (l .partition) × (Within (l .«ebr_first_chs») × IfThere (l .«ebr_last_chs»))
 
--- rule S22
+-- rule S3
 abbrev pub logicalChsb : LogicalPartition → Bool
 logicalChsb l = entryChsb (l .partition) && (withinb (l .«ebr_first_chs») && ifThereb (l .«ebr_last_chs»))
 
@@ -109,7 +110,7 @@ Addresses t = All EntryChs (primariesOf t) × All LogicalChs (t .logicals)
 unfoldable pub addressesb : Contents → Bool
 addressesb t = allb entryChsb (primariesOf t) && allb logicalChsb (t .logicals)
 
--- rules S4 to S6: each used primary starts at 1 or above, has at least 1 sector, ends by D
+-- rules S4 and S6: each used primary starts at 1 or above, has at least 1 sector, ends by D
 abbrev pub Used : MBRPartitionEntry → Type 0
 Used e = used (e .sys) ≡ true
 
@@ -135,7 +136,7 @@ onDiskb t = allb (λ e. not (used (e .sys)) || leb (endOf e) (t .size)) (primari
 abbrev pub Apart : MBRPartitionEntry → MBRPartitionEntry → Type 0
 Apart e f = Used e → Used f → (endOf e ≤ f .«starting_lba») ⊎ (endOf f ≤ e .«starting_lba»)
 
--- rule S25
+-- rule S7
 abbrev pub apartb : MBRPartitionEntry → MBRPartitionEntry → Bool
 apartb e f = not (used (e .sys)) || (not (used (f .sys)) || (leb (endOf e) (f .«starting_lba») || leb (endOf f) (e .«starting_lba»)))
 
@@ -197,7 +198,7 @@ AfterEbr t = All (λ l. at l < start l) (t .logicals)
 unfoldable pub afterEbrb : Contents → Bool
 afterEbrb t = allb (λ l. ltb (at l) (start l)) (t .logicals)
 
--- rule S14: ends by the next EBR or the extended end (rule S27)
+-- rule S14: ends by the next EBR or the extended end
 abbrev pub bound : ℕ → Option LogicalPartition → ℕ
 bound hi none = hi
 bound hi (some m) = at m
@@ -206,10 +207,10 @@ abbrev pub EndsBy : ℕ → LogicalPartition → Option LogicalPartition → Typ
 EndsBy hi l n = end l ≤ bound hi n
 
 abbrev pub Ends : Contents → Type 0
-Ends t = Row (EndsBy (areaEnd (extendedIn t))) (t .logicals) none
+Ends t = Row (EndsBy (areaEnd (extendedEntry t))) (t .logicals) none
 
 unfoldable pub endsb : Contents → Bool
-endsb t = rowb (λ l n. leb (end l) (bound (areaEnd (extendedIn t)) n)) (t .logicals) none
+endsb t = rowb (λ l n. leb (end l) (bound (areaEnd (extendedEntry t)) n)) (t .logicals) none
 
 -- rule S15: the first EBR is at X
 abbrev pub FirstAt : ℕ → List LogicalPartition → Type 0
@@ -243,15 +244,15 @@ ofLinkb p other (Present n) = p n
 abbrev pub LinksSized : Contents → Type 0
 LinksSized t = All (λ l. OfLink (λ n. 1 ≤ n) ⊥ (l .«ebr_sectors»)) (later (t .logicals))
 
--- rule S28
+-- rule S17
 unfoldable pub linksSizedb : Contents → Bool
 linksSizedb t = allb (λ l. ofLinkb (λ n. leb 1 n) false (l .«ebr_sectors»)) (later (t .logicals))
 
 abbrev pub LinksEnd : Contents → Type 0
-LinksEnd t = All (λ l. OfLink (λ n. at l + n ≤ areaEnd (extendedIn t)) (Unit {0}) (l .«ebr_sectors»)) (later (t .logicals))
+LinksEnd t = All (λ l. OfLink (λ n. at l + n ≤ areaEnd (extendedEntry t)) (Unit {0}) (l .«ebr_sectors»)) (later (t .logicals))
 
 unfoldable pub linksEndb : Contents → Bool
-linksEndb t = allb (λ l. ofLinkb (λ n. leb (at l + n) (areaEnd (extendedIn t))) true (l .«ebr_sectors»)) (later (t .logicals))
+linksEndb t = allb (λ l. ofLinkb (λ n. leb (at l + n) (areaEnd (extendedEntry t))) true (l .«ebr_sectors»)) (later (t .logicals))
 
 abbrev pub LinksCover : Contents → Type 0
 LinksCover t = All (λ l. OfLink (λ n. end l ≤ at l + n) (Unit {0}) (l .«ebr_sectors»)) (later (t .logicals))
@@ -269,13 +270,13 @@ pub record Sound (t : Contents) : Type 0 where
   pub on-disk : OnDisk t
   pub apart : AllApart t
   pub one : OneExtended t
-  pub owned : Owned (extendedIn t) (t .logicals)
+  pub owned : Owned (extendedEntry t) (t .logicals)
   pub used : LogicalsUsed t
   pub plain : LogicalsPlain t
   pub sized : LogicalsSized t
   pub behind : AfterEbr t
   pub ends : Ends t
-  pub first : FirstAt (areaStart (extendedIn t)) (t .logicals)
+  pub first : FirstAt (areaStart (extendedEntry t)) (t .logicals)
   pub ascend : Ascend t
   pub link-sized : LinksSized t
   pub link-ends : LinksEnd t
@@ -292,13 +293,13 @@ soundRules t =
     ∷ (6 ! onDiskb t)
     ∷ (7 ! allApartb t)
     ∷ (8 ! oneExtendedb t)
-    ∷ (9 ! ownedb (extendedIn t) (t .logicals))
+    ∷ (9 ! ownedb (extendedEntry t) (t .logicals))
     ∷ (10 ! logicalsUsedb t)
     ∷ (11 ! logicalsPlainb t)
     ∷ (12 ! logicalsSizedb t)
     ∷ (13 ! afterEbrb t)
     ∷ (14 ! endsb t)
-    ∷ (15 ! firstAtb (areaStart (extendedIn t)) (t .logicals))
+    ∷ (15 ! firstAtb (areaStart (extendedEntry t)) (t .logicals))
     ∷ (16 ! ascendb t)
     ∷ (17 ! linksSizedb t)
     ∷ (18 ! linksEndb t)
@@ -309,6 +310,6 @@ soundRules t =
 unfoldable pub soundb : Contents → Bool
 soundb t = checked (soundRules t) (λ k. false) true
 
--- rule S30: the test on a table handed in, a count over 24 is 6
+-- rule G5: the test on a table handed in, a count over the capacity is 6
 unfoldable pub soundSays : MBR → Said Bool
-soundSays t = answer ((6 ! leb (t .count) most) ∷ []) (soundb (contentsOf t))
+soundSays t = answer (countCheck t ∷ []) (soundb (contentsOf t))

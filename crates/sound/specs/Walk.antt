@@ -5,12 +5,13 @@ use mathlib.Core.Option.{Option, none, some}
 use mathlib.Core.List.{List, [], _∷_}
 use lib.Dec.{ltb, leb, eqb}
 use Rattle.base.specs.Pick.{pick}
-use Rattle.entry.specs.declared.MBRPartitionEntry.{MBRPartitionEntry}
-use Rattle.entry.specs.Entry.{flagOk, used, extended, endOf}
+use Rattle.base.specs.All.{allb}
+use Rattle.record_entry.specs.declared.MBRPartitionEntry.{MBRPartitionEntry}
+use Rattle.record_entry.specs.Entry.{flagOk, used, extended, endOf}
 use Rattle.table.specs.declared.LogicalPartition.{LogicalPartition}
 use Rattle.chain.specs.Facts.{at, start}
-use Rattle.sound.specs.Is.{allb, pairsb}
-use Rattle.sound.specs.Sound.{Contents, primariesOf, extendedIn, end, signedb, entryChsb, logicalChsb, apartb, notBothb, ofLinkb}
+use Rattle.sound.specs.Is.{pairsb}
+use Rattle.sound.specs.Sound.{Contents, primariesOf, extendedEntry, end, signedb, entryChsb, logicalChsb, apartb, notBothb, ofLinkb}
 
 -- start and sectors at least 1, the end by D
 unfoldable pub spanb : ℕ → MBRPartitionEntry → Bool
@@ -59,4 +60,4 @@ chainb none (l ∷ ls) = false
 chainb (some e) ls = rowsb (endOf e) true (e .«starting_lba») ls
 
 unfoldable pub walkb : Contents → Bool
-walkb t = signedb t && (allb (primaryb (t .size)) (primariesOf t) && (pairsb pairb (primariesOf t) && chainb (extendedIn t) (t .logicals)))
+walkb t = signedb t && (allb (primaryb (t .size)) (primariesOf t) && (pairsb pairb (primariesOf t) && chainb (extendedEntry t) (t .logicals)))

@@ -6,14 +6,14 @@ use lib.Dec.{eqb}
 use lib.ListN.{replicate}
 use Rattle.base.specs.Pick.{pick}
 use Rattle.base.specs.Said.{Said, gives, refuses, andThen}
-use Rattle.chs.specs.Chs.{noChs}
-use Rattle.entry.specs.declared.MBRPartitionEntry.{MBRPartitionEntry}
-use Rattle.entry.specs.Entry.{entryBytes, noEntry}
-use Rattle.ebr.specs.Ebr.{noKept, ebrBytes}
+use Rattle.record_chs.specs.Chs.{noChs}
+use Rattle.record_entry.specs.declared.MBRPartitionEntry.{MBRPartitionEntry}
+use Rattle.record_entry.specs.Entry.{entryBytes, noEntry}
+use Rattle.record_ebr.specs.Ebr.{noKept, ebrBytes}
 use Rattle.extract.specs.Disk.{Disk}
 use Rattle.table.specs.declared.MBR.{MBR}
-use Rattle.read.specs.Read.{read, tableOf}
-use Rattle.request.specs.declared.Request.{Request}
+use Rattle.read_table.specs.Read.{read, tableOf}
+use Rattle.table_push.specs.declared.request.Request.{Request}
 use Rattle.careful.specs.Careful.{Change, roomNeeded, carefulPush}
 
 -- an entry without flag and addresses: type, start, sectors
@@ -29,19 +29,19 @@ diskWith n e others =
       sector = λ a. pick (eqb a 0) (replicate 446 0 ++ entryBytes e ++ replicate 48 0 ++ 0x55 ∷ 0xAA ∷ []) (others a);
     }
 
-unfoldable pub blank : ℕ → List ℕ
-blank a = replicate 512 0
+unfoldable pub blankAt : ℕ → List ℕ
+blankAt a = replicate 512 0
 
 -- D 10,000, primary 2,048+2,048
 unfoldable pub plainDisk : Disk
-plainDisk = diskWith 10000 (entry 0x83 2048 2048) blank
+plainDisk = diskWith 10000 (entry 0x83 2048 2048) blankAt
 
 unfoldable pub ebrK : List ℕ
 ebrK = ebrBytes (record { kept = noKept; «partition_1» = entry 0x83 2048 2048; «partition_2» = noEntry })
 
 -- disk K: primary 1 type 05 at 4,096+16,384; one logical, type 83, EBR 4,096, start 6,144, 2,048 sectors
 unfoldable pub K : Disk
-K = diskWith 20480 (entry 0x05 4096 16384) (λ a. pick (eqb a 4096) ebrK (blank a))
+K = diskWith 20480 (entry 0x05 4096 16384) (λ a. pick (eqb a 4096) ebrK (blankAt a))
 
 -- what is asked of the table that a disk reads as
 unfoldable pub asked : {A : Type 0} → Disk → (MBR → Said A) → Said A

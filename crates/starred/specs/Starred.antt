@@ -3,14 +3,15 @@ use Prim.Native.Nat.{ℕ}
 use mathlib.Core.Bool.{Bool, true, false, not, _&&_}
 use mathlib.Core.List.{List, [], _∷_}
 use lib.Dec.{eqb}
-use Rattle.align.specs.Align.{alignment}
+use Rattle.base.specs.All.{allb}
+use Rattle.read_align.specs.Align.{alignment}
 use Rattle.base.specs.Said.{Said, gives, refuses}
-use Rattle.chs.specs.declared.CHS.{CHS}
-use Rattle.chs.specs.Chs.{chs, chsBytes, exact, aligned, isValid}
+use Rattle.record_chs.specs.declared.CHS.{CHS}
+use Rattle.record_chs.specs.Chs.{chs, chsBytes, exact, aligned, isValid}
 use mathlib.Core.Option.{Option, none, some}
-use Rattle.free.specs.declared.Run.{Run}
-use Rattle.free.specs.Free.{free}
-use Rattle.place.specs.Place.{firstPlace, lastPlace}
+use Rattle.table_free.specs.declared.Run.{Run}
+use Rattle.table_free.specs.Free.{free}
+use Rattle.table_place.specs.Place.{firstPlace, lastPlace}
 use Rattle.starred.specs.Disks.{plainDisk, K, asked, pushedOnK}
 
 -- equal lists
@@ -25,9 +26,9 @@ abbrev pub address : CHS → List ℕ
 address c = c .cylinder ∷ c .head ∷ c .sector ∷ []
 
 -- the address is given
-abbrev pub at : Said CHS → CHS → Bool
-at (gives c) d = same (address c) (address d)
-at (refuses k) d = false
+abbrev pub addressIs : Said CHS → CHS → Bool
+addressIs (gives c) d = same (address c) (address d)
+addressIs (refuses k) d = false
 
 -- the refusal is given
 abbrev pub no : {A : Type 0} → Said A → ℕ → Bool
@@ -44,15 +45,15 @@ runs (gives rs) ns = same (flat rs) ns
 runs (refuses k) ns = false
 
 -- the place is given, or none is
-abbrev pub placed : Said (Option ℕ) → List ℕ → Bool
-placed (gives none) ns = same [] ns
-placed (gives (some p)) ns = same (p ∷ []) ns
-placed (refuses k) ns = false
+abbrev pub placeIs : Said (Option ℕ) → List ℕ → Bool
+placeIs (gives none) ns = same [] ns
+placeIs (gives (some p)) ns = same (p ∷ []) ns
+placeIs (refuses k) ns = false
 
 -- the number is given
-abbrev pub number : Said ℕ → ℕ → Bool
-number (gives n) m = eqb n m
-number (refuses k) m = false
+abbrev pub numberIs : Said ℕ → ℕ → Bool
+numberIs (gives n) m = eqb n m
+numberIs (refuses k) m = false
 
 abbrev pub rows : List Bool
 rows =
@@ -61,30 +62,29 @@ rows =
     ∷ same (chsBytes (chs 514 3 5)) (0x03 ∷ 0x85 ∷ 0x02 ∷ [])
     ∷ same (chsBytes (chs 1023 254 63)) (0xFE ∷ 0xFF ∷ 0xFF ∷ [])
     -- exact, 1023 cylinders, 255 heads, 63 sectors
-    ∷ at (exact 2048 1023 255 63) (chs 0 32 33)
-    ∷ at (exact 16450559 1023 255 63) (chs 1023 254 63)
+    ∷ addressIs (exact 2048 1023 255 63) (chs 0 32 33)
+    ∷ addressIs (exact 16450559 1023 255 63) (chs 1023 254 63)
     ∷ not (isValid (chs 1023 254 63) 1023 255 63)
     ∷ no (exact 16450560 1023 255 63) 13
     -- 10 cylinders, 2 heads, 3 sectors
-    ∷ at (exact 60 10 2 3) (chs 10 0 1)
+    ∷ addressIs (exact 60 10 2 3) (chs 10 0 1)
     ∷ no (exact 66 10 2 3) 14
-    ∷ at (aligned 6 10 2 3) (chs 1 0 1)
-    ∷ at (aligned 7 10 2 3) (chs 2 0 1)
+    ∷ addressIs (aligned 6 10 2 3) (chs 1 0 1)
+    ∷ addressIs (aligned 7 10 2 3) (chs 2 0 1)
     -- alignment
-    ∷ number (alignment (63 ∷ [])) 63
-    ∷ number (alignment (32768 ∷ [])) 16384
-    ∷ number (alignment (0 ∷ 63 ∷ [])) 63
+    ∷ numberIs (alignment (63 ∷ [])) 63
+    ∷ numberIs (alignment (32768 ∷ [])) 16384
+    ∷ numberIs (alignment (0 ∷ 63 ∷ [])) 63
     ∷ no (alignment (0 ∷ [])) 7
     -- D 10,000: free runs and places
     ∷ runs (asked plainDisk free) (4096 ∷ 5904 ∷ [])
-    ∷ placed (asked plainDisk (λ t. lastPlace t 1000)) (8192 ∷ [])
-    ∷ placed (asked plainDisk (λ t. firstPlace t 5905)) []
+    ∷ placeIs (asked plainDisk (λ t. lastPlace t 1000)) (8192 ∷ [])
+    ∷ placeIs (asked plainDisk (λ t. firstPlace t 5905)) []
     -- K: free runs; a careful push that is not refused and stores at 8,192, then 4,096
     ∷ runs (asked K free) (2048 ∷ 2048 ∷ 6144 ∷ 4096 ∷ 12288 ∷ 8192 ∷ [])
     ∷ same (pushedOnK 8192 4096) (0 ∷ 8192 ∷ 4096 ∷ [])
     ∷ []
 
 -- every row holds
-abbrev pub every : List Bool → Bool
-every [] = true
-every (b ∷ bs) = b && every bs
+abbrev pub allHold : List Bool → Bool
+allHold bs = allb (λ b. b) bs

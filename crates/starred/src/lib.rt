@@ -1,10 +1,12 @@
-// The scope document's numbers that are marked with a star hold: one table, in specs/Starred.antt.
+// The numbers that are marked with a star hold: one proved table, in specs/Starred.antt.
+// Scope: Numbers to hold (those marked *).
+// `all_hold` answers true, by its contract.
 ghost use mathlib.Core.Path.{_≡_};
-ghost use Rattle.starred.specs.Starred.{rows, every};
+ghost use Rattle.starred.specs.Starred.{rows, allHold};
 
 // Does every row of the table hold?
 pub fn all_hold() -> bool
-    ensures { λ r. ⌜ r ≡ every rows ⌝ }
+    ensures { λ r. ⌜ r ≡ allHold rows ⌝ }
 {
     true
 }

@@ -1,71 +1,66 @@
 // The station's program: lists the table of a disk or an image, writes its extract, and changes it carefully.
-mod asks;
+mod change;
+mod wishes;
 
-use alter::shown;
-use disk::open;
-use extract::Outcome;
-use gather::first;
-use gather::sizes;
-use said::help;
-use said::say;
-use words::args;
-use words::options;
-use words::size;
-use words::size::Size;
-use words::slices;
-use words::wrong;
+use base::Answer;
+use station_disk::first_sector;
+use station_disk::gather;
+use station_disk::open;
+use station_disk::other_size;
+use station_stores::output;
+use station_words::args;
+use station_words::errors;
+use station_words::help;
+use station_words::options;
+use station_words::size;
+use station_words::slices;
+use station_words::wrong;
 
 // What the listing does not say.
 fn warn(x: &[u8]) {
-    first::show_guid(x);
-    if first::state(x) == first::OTHER {
-        first::show_other(x);
+    first_sector::show_guid(x);
+    if first_sector::state(x) == first_sector::OTHER {
+        first_sector::show_other(x);
     }
 }
 
 // The listing, or the refusal on standard error.
 fn list(x: &[u8]) {
-    let r = read::read_from(x);
+    let r = read_table::read_from(x);
     let answer = r.answer;
     match answer {
-        Outcome::Done => {
+        Answer::Done => {
             warn(x);
-            shown::show_listing(x);
+            output::show_listing(x);
         }
-        Outcome::Refused(r) => say::refused(r.number),
+        Answer::Refused(r) => errors::refused(r.number),
     }
 }
 
-// The extract listed or written out, if no other sector size speaks against it.
-fn judged(fd: i32, size: Size, whole: bool, x: &[u8]) {
-    if !size.named {
-        if !sizes::holds(fd, size.bytes, x) {
-            return;
-        }
+// Collects the extract of an open disk and, if no other sector size speaks against it, lists it or writes it out.
+fn on_open(fd: i32, sector: u32, whole: bool) {
+    let mut space = [0u8; extract::LARGEST];
+    let n = gather::gather(fd, sector, &mut space);
+    if !gather::is_whole(n) {
+        return gather::tell(n);
+    }
+    let x = slices::part(&space, n);
+    if !other_size::holds(fd, sector, size::is_named(3), x) {
+        return;
     }
     if whole {
-        shown::show(x);
+        output::show(x);
         return;
     }
     list(x);
 }
 
-// Collects the extract of an open disk, and lists it or writes it out.
-fn on_open(fd: i32, size: Size, whole: bool) {
-    let mut x = [0u8; 33048];
-    let n = gather::gather(fd, size.bytes, &mut x);
-    if !gather::is_whole(n) {
-        return gather::tell(n);
-    }
-    judged(fd, size, whole, slices::part(&x, n));
-}
-
-fn on_disk(size: Size, whole: bool) {
+fn on_disk(sector: u32, whole: bool) {
     let fd = open::to_read();
     if fd < 0 {
         return;
     }
-    on_open(fd, size, whole);
+    on_open(fd, sector, whole);
     libc::close(fd);
 }
 
@@ -78,7 +73,7 @@ fn looks(command: u8, whole: bool) {
         return;
     }
     let s = size::wanted(3);
-    if s.bytes == 0 {
+    if s == 0 {
         return;
     }
     on_disk(s, whole);
@@ -97,8 +92,8 @@ fn carry_out(command: u8) {
     match command {
         1 => looks(1, false),
         2 => looks(2, true),
-        3 => asks::add(),
-        4 => asks::remove(),
+        3 => wishes::add(),
+        4 => wishes::remove(),
         _ => no_command(),
     }
 }
@@ -117,7 +112,7 @@ fn explain(command: u8) {
 fn no_disk(command: u8) {
     wrong::argument(2, b"DISK", b"a disk or an image");
     if 2 < command {
-        alter::end(false);
+        change::end(false);
     }
 }
 

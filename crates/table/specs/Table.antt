@@ -1,5 +1,5 @@
 -- The table: header, logical partitions, and what no disk holds. Assumes nothing.
-use Prim.Native.Nat.{ℕ, _+_, _-_, _≤_}
+use Prim.Native.Nat.{ℕ, _+_, _-_, _*_, _/_}
 use mathlib.Core.List.{List, [], _∷_, _++_, map}
 use mathlib.Core.Bool.{Bool}
 use mathlib.Core.Option.{Option, none, some}
@@ -8,14 +8,15 @@ use lib.Dec.{eqb, ltb, leb}
 use lib.ListN.{length, getD, take, drop, set, replicate}
 use lib.Seq.{paste}
 use Rattle.base.specs.Pick.{pick}
-use Rattle.chs.specs.declared.CHS.{CHS}
-use Rattle.chs.specs.Chs.{noChs}
-use Rattle.entry.specs.declared.MBRPartitionEntry.{MBRPartitionEntry}
-use Rattle.entry.specs.Entry.{noEntry}
-use Rattle.ebr.specs.declared.Kept.{Kept}
-use Rattle.ebr.specs.Ebr.{noKept}
-use Rattle.mbr.specs.declared.MBRHeader.{MBRHeader}
-use Rattle.mbr.specs.Mbr.{primaries, primaryOf, noHeader, extendedOf}
+use Rattle.base.specs.Checks.{Check, _!_}
+use Rattle.record_chs.specs.declared.CHS.{CHS}
+use Rattle.record_chs.specs.Chs.{noChs}
+use Rattle.record_entry.specs.declared.MBRPartitionEntry.{MBRPartitionEntry}
+use Rattle.record_entry.specs.Entry.{noEntry}
+use Rattle.record_ebr.specs.declared.Kept.{Kept}
+use Rattle.record_ebr.specs.Ebr.{noKept}
+use Rattle.record_mbr.specs.declared.MBRHeader.{MBRHeader}
+use Rattle.record_mbr.specs.Mbr.{primaries, primaryOf, noHeader, extendedOf}
 use Rattle.table.specs.declared.DiskLba.{DiskLba}
 use Rattle.table.specs.declared.MaybeSectors.{MaybeSectors}
 use Rattle.table.specs.declared.MaybeSectors.the-variants.{Absent, Present}
@@ -24,7 +25,7 @@ use Rattle.table.specs.declared.MaybeChs.the-variants.{Absent as NoChs, 
 use Rattle.table.specs.declared.LogicalPartition.{LogicalPartition}
 use Rattle.table.specs.declared.MBR.{MBR}
 
--- the most logical partitions of a table (rule G6)
+-- the most logical partitions of a table (rule G5)
 abbrev pub most : ℕ
 most = 24
 
@@ -32,37 +33,41 @@ most = 24
 abbrev pub defaultAlign : ℕ
 defaultAlign = 2048
 
--- the greatest alignment (rule A4)
+-- the greatest alignment (rule A2)
 abbrev pub greatestAlign : ℕ
 greatestAlign = 16384
+
+-- a number above 0 rounded up to a multiple of the alignment (rules P3 and F14)
+unfoldable pub rounded : ℕ → ℕ → ℕ
+rounded align n = ((n - 1) / align + 1) * align
 
 -- the table's logical partitions
 abbrev pub logicals : MBR → List LogicalPartition
 logicals t = take (t .count) (t .«logical_partitions»)
 
--- what an unused slot reads as outside the array
-abbrev pub noLogical : LogicalPartition
-noLogical =
+-- a table handed in with a count over that is refused first (rule G5)
+abbrev pub countCheck : MBR → Check
+countCheck t = 6 ! leb (t .count) most
+
+-- an empty logical partition but for what it keeps
+abbrev pub emptyBut : Kept → LogicalPartition
+emptyBut k =
     record {
       partition = noEntry;
       «absolute_ebr_lba» = record { 0 = 0 };
       «ebr_sectors» = Absent;
       «ebr_first_chs» = noChs;
       «ebr_last_chs» = NoChs;
-      kept = record { «bootstrap_code» = [] };
+      kept = k;
     }
+
+-- what an unused slot reads as outside the array
+abbrev pub noLogical : LogicalPartition
+noLogical = emptyBut (record { «bootstrap_code» = [] })
 
 -- an unused slot of a table that is made: empty, its code zeros
 abbrev pub emptySlot : LogicalPartition
-emptySlot =
-    record {
-      partition = noEntry;
-      «absolute_ebr_lba» = record { 0 = 0 };
-      «ebr_sectors» = Absent;
-      «ebr_first_chs» = noChs;
-      «ebr_last_chs» = NoChs;
-      kept = noKept;
-    }
+emptySlot = emptyBut noKept
 
 -- logical partitions in an array with unused slots behind them
 unfoldable pub slots : List LogicalPartition → List LogicalPartition

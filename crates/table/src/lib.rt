@@ -1,8 +1,10 @@
-// The partition table, as it travels by value.
-use chs::CHS;
-use ebr::Kept;
-use entry::MBRPartitionEntry;
-use mbr::MBRHeader;
+// The partition table by value: `MBR`, `LogicalPartition`, the capacities.
+// Scope: Ground covered (how many logical partitions at most); relative and absolute LBAs kept apart. Rules: G, A.
+// For callers: `MBR` with `DEFAULT_ALIGN`, `MAX_ALIGN`; `LogicalPartition::empty`; `DiskLba`, `LinkLba`; `LOGICALS`.
+use record_chs::CHS;
+use record_ebr::Kept;
+use record_entry::MBRPartitionEntry;
+use record_mbr::MBRHeader;
 ghost use mathlib.Core.Path.{_≡_};
 ghost use Rattle.table.specs.Table.{defaultAlign, greatestAlign, emptySlot};
 

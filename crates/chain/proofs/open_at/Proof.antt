@@ -3,9 +3,9 @@ use mathlib.Core.Option.{none, some}
 use native.Mathlib.Omega.{arith}
 use Prim.Native.Nat.{ℕ, _+_, _≤_, _<_}
 use Rattle.extract.specs.Extract.{count, lbaAt, diskSectors}
-use Rattle.extract.specs.Spot.{SpotOf}
-use Rattle.extract.specs.declared.Spot.the-variants.{Found, Absent}
-use Rattle.chain.specs.Walk.{placeOn, placeSaid}
+use Rattle.extract.specs.ListSpot.{SpotOf}
+use Rattle.extract.specs.declared.ListSpot.the-variants.{Found, Absent}
+use Rattle.chain.specs.Walk.{placeOn, reachedSaid}
 use Rattle.chain.proofs.Decision.{place-at, place-beyond}
 use Rattle.chain.proofs.Steps.{open-past, lack-past, open-blank, lack-blank, open-number, lack-number}
 use borrow.Author.Needs.{needs}
@@ -47,7 +47,7 @@ returns c =
     let s = c .before .before .before .before in
     let x = s .args .x .now in
     let a = s .args .base .0 + s .args .rel .0 in
-    let p : none ≡ placeOn (s .args .d) a = sym (ap placeSaid (c .enum-told .given .1)) ∙ c .before .before .place .ensures in
+    let p : none ≡ placeOn (s .args .d) a = sym (ap reachedSaid (c .enum-told .given .1)) ∙ c .before .before .place .ensures in
     let h : diskSectors x ≤ a = omega (arith, place-beyond (s .args .d) a p, s .pre .1) in
     (open-past x a h, (lack-past x a h, tt))
 
@@ -56,7 +56,7 @@ returns-2 c =
     let s = c .before .before .before .before .before .before .before .before in
     let x = s .args .x .now in
     let a = s .args .base .0 + s .args .rel .0 in
-    let p : some (c .before .before .before .before .at .given .0 .0 .0) ≡ placeOn (s .args .d) a = sym (ap placeSaid (c .before .before .before .before .at .given .1)) ∙ c .before .before .before .before .before .before .place .ensures in
+    let p : some (c .before .before .before .before .at .given .0 .0 .0) ≡ placeOn (s .args .d) a = sym (ap reachedSaid (c .before .before .before .before .at .given .1)) ∙ c .before .before .before .before .before .before .place .ensures in
     let k = place-at (s .args .d) a (c .before .before .before .before .at .given .0 .0 .0) p in
     let h : a < diskSectors x = omega (arith, k .1, s .pre .1) in
     let j = c .enum-told2 .given .0 .0 in
@@ -69,7 +69,7 @@ returns-3 c =
     let s = c .before .before .before .before .before .before .before .before .before .before in
     let x = s .args .x .now in
     let a = s .args .base .0 + s .args .rel .0 in
-    let p : some (c .before .before .before .before .before .before .at .given .0 .0 .0) ≡ placeOn (s .args .d) a = sym (ap placeSaid (c .before .before .before .before .before .before .at .given .1)) ∙ c .before .before .before .before .before .before .before .before .place .ensures in
+    let p : some (c .before .before .before .before .before .before .at .given .0 .0 .0) ≡ placeOn (s .args .d) a = sym (ap reachedSaid (c .before .before .before .before .before .before .at .given .1)) ∙ c .before .before .before .before .before .before .before .before .place .ensures in
     let k = place-at (s .args .d) a (c .before .before .before .before .before .before .at .given .0 .0 .0) p in
     let h : a < diskSectors x = omega (arith, k .1, s .pre .1) in
     let i = c .before .before .i .given .0 .0 in

@@ -6,13 +6,13 @@ use Rattle.extract.specs.Extract.{count}
 use Rattle.extract.proofs.Disk.{record-at}
 use Rattle.extract.specs.Extract.{recordAt}
 use Rattle.chain.proofs.Steps.{opened-given, opened-refused}
-use Rattle.ebr.specs.declared.Entries.{Entries}
+use Rattle.record_ebr.specs.declared.Entries.{Entries}
 use borrow.Author.Needs.{needs}
 use Rattle.chain.proofs.open_record.Statement.{statement}
 use Rattle.chain.proofs.open_record.Tie as tie
 use Rattle.chain.proofs.open_record.Reads as reads
 use Rattle.chain.proofs.open_record.Lts as lts
-use Rattle.ebr.proofs.open.Reads as open-reads
+use Rattle.record_ebr.proofs.open.Reads as open-reads
 use Rattle.extract.proofs.record_at.Reads as record-at-reads
 
 record-at-requires : tie.Need-record-at-requires
@@ -35,7 +35,7 @@ returns : tie.Need-returns
 returns c =
     let s = c .before .before .before .before .before .before in
     let f = rw (c .before .k .given .1, c .before .before .before .before .record-at .ensures) at (c .before .before .before .«open» .ensures) in
-    (opened-refused (recordAt (s .args .x .now) (s .args .i)) (c .before .k .given .0 .0) f, (refl, tt))
+    (opened-refused (recordAt (s .args .x .now) (s .args .i)) (c .before .k .given .0 .0 .number) f, (refl, tt))
 
 returns-2 : tie.Need-returns-2
 returns-2 c =

@@ -2,7 +2,7 @@ use borrow.Author.Needs.{needs}
 use native.Mathlib.Omega.{arith}
 use mathlib.Core.Path.{_≡_, sym, _∙_}
 use Rattle.extract.specs.Answers.{placeSays}
-use Rattle.extractrules.proofs.Size.{shift-size}
+use Rattle.extract.proofs.header_rules.Size.{shift-size}
 use Rattle.extract.proofs.Shifted.{place-said}
 use Rattle.extract.proofs.byte_place.Statement.{statement}
 use Rattle.extract.proofs.byte_place.Tie as tie

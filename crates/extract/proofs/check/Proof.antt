@@ -5,14 +5,13 @@ use Rattle.base.specs.Said.{refusal}
 use Rattle.base.specs.Checks.{first-fail}
 use Rattle.base.specs.Bytes.{Bytes}
 use Rattle.base.proofs.Bytes.{bytes-all}
-use Rattle.extract.specs.Answers.{outcomeSaid}
 use Rattle.extract.proofs.Good.{ofHeader, ofLbas, says-short, says-header, says-lbas, says-good, header-words, header-room}
 use borrow.Author.Needs.{needs}
 use Rattle.extract.proofs.check.Statement.{statement}
 use Rattle.extract.proofs.check.Tie as tie
 use Rattle.extract.proofs.check.Reads as reads
 use Rattle.extract.proofs.check.Lts as lts
-use Rattle.extractrules.proofs.header_rules.Reads as header-rules-reads
+use Rattle.extract.proofs.header_rules.header_rules.Reads as header-rules-reads
 use Rattle.extract.proofs.lba_rules.Reads as lba-rules-reads
 use Rattle.extract.proofs.word_at.Reads as word-at-reads
 
@@ -86,7 +85,7 @@ lba-rules-requires c κs =
     (omega arith, omega arith)
 
 -- what both groups said
-lbas-said : (c : tie.After-lba-rules) → outcomeSaid (c .lba-rules .result) ≡ first-fail (ofLbas (c .before .before .before .before .before .before .before .before .before .before .before .before .args .x .now))
+lbas-said : (c : tie.After-lba-rules) → refusal (c .lba-rules .result) ≡ first-fail (ofLbas (c .before .before .before .before .before .before .before .before .before .before .before .before .args .x .now))
 lbas-said c = c .lba-rules .ensures ∙ rw (c .before .before .before .before .before .before .before .before .word-at2 .ensures, c .before .before .before .before .before .before .before .word-at3 .ensures)
 
 enum-known-r : tie.Need-enum-known-r
@@ -102,12 +101,12 @@ returns-2 c =
 returns-3 : tie.Need-returns-3
 returns-3 c =
     let h = sym (header-said (c .before .before .before .before .before .before)) ∙ ap refusal (c .before .before .before .before .enum-told .given .1) in
-    (says-lbas _ _ (c .before .before .before .before .before .before .before .before .before .before .before .before .before .if1 .left) h (sym (lbas-said (c .before .before .before)) ∙ ap outcomeSaid (c .before .r .given .1)), are-bytes (c .before .before .before .before .before .before .before .before .before .before .before .before .before .before))
+    (says-lbas _ _ (c .before .before .before .before .before .before .before .before .before .before .before .before .before .if1 .left) h (sym (lbas-said (c .before .before .before)) ∙ ap refusal (c .before .r .given .1)), are-bytes (c .before .before .before .before .before .before .before .before .before .before .before .before .before .before))
 
 returns-4 : tie.Need-returns-4
 returns-4 c =
     let h = sym (header-said (c .before .before .before .before .before)) ∙ ap refusal (c .before .before .before .enum-told .given .1) in
-    let l = sym (lbas-said (c .before .before)) ∙ ap outcomeSaid (c .enum-told2 .given .1) in
+    let l = sym (lbas-said (c .before .before)) ∙ ap refusal (c .enum-told2 .given .1) in
     (rw (c .before .before .before .before .before .before .before .before .before .before .before .word-at .ensures, c .before .before .before .before .before .before .before .before .before .before .word-at2 .ensures, c .before .before .before .before .before .before .before .before .before .word-at3 .ensures) (says-good _ (c .before .before .before .before .before .before .before .before .before .before .before .before .if1 .left) h l), are-bytes (c .before .before .before .before .before .before .before .before .before .before .before .before .before))
 
 pub check-spec : {M : Type 1} → statement M

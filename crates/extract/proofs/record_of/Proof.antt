@@ -1,8 +1,8 @@
 use native.Mathlib.Omega.{arith}
 use mathlib.Core.List.{[]}
 use mathlib.Core.Path.{_≡_, sym, ap, _∙_}
-use Rattle.extract.specs.Spot.{SpotOf}
-use Rattle.extract.specs.declared.Spot.the-variants.{Found, Absent}
+use Rattle.extract.specs.ListSpot.{SpotOf}
+use Rattle.extract.specs.declared.ListSpot.the-variants.{Found, Absent}
 use Rattle.extract.proofs.Halves.{found-is, absent-is}
 use borrow.Author.Needs.{needs}
 use Rattle.extract.proofs.record_of.Statement.{statement}

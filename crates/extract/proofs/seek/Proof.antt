@@ -5,6 +5,7 @@ use Prim.Native.Nat.{ℕ, _≤_, _<_, _-_, _+_, _*_, _/_}
 use native.Mathlib.Decide.{decLt}
 use lib.ListN.{length}
 use Rattle.extract.specs.Extract.{count, lbaAt}
+use Rattle.extract.specs.Rules.{mostRecords}
 use Rattle.extract.proofs.Good.{good-few, good-long}
 use Rattle.extract.proofs.Halves.{lower, higher}
 use Rattle.extract.proofs.seek.Statement.{statement}
@@ -20,7 +21,7 @@ abbrev Inv-loop : tie.InvT-loop
 Inv-loop x n lba lo₀ hi₀ lo hi =
     (lo ≤ hi) ×
     (hi ≤ n) ×
-    (n ≤ 64) ×
+    (n ≤ mostRecords) ×
     (24 + n * 516 ≤ length x) ×
     ((j : ℕ) → j < lo → lbaAt x j < lba) ×
     ((j : ℕ) → hi ≤ j → j < n → lba < lbaAt x j)

@@ -1,0 +1,2 @@
+pub mod Chs
+pub mod Slot

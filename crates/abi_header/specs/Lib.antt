@@ -1,0 +1,2 @@
+pub mod HeaderBytesHeader
+pub mod Header

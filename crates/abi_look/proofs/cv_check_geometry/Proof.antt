@@ -1,0 +1,51 @@
+use mathlib.Core.Path.{refl, sym, ap, _∙_}
+use Rattle.base.specs.Said.{Said, refusal, andThen}
+use Rattle.table.specs.declared.MBR.{MBR}
+use Rattle.table_push.specs.Answers.{checkGeometrySays}
+use Rattle.abi_word.specs.Packed.{packedBool}
+use Rattle.block.proofs.calls.Laws.{block-refused, block-done, passed}
+use borrow.Author.Needs.{needs}
+use Rattle.abi_look.proofs.cv_check_geometry.Statement.{statement}
+use Rattle.abi_look.proofs.cv_check_geometry.Tie as tie
+
+check-requires : tie.Need-check-requires
+check-requires c κs = search needs
+
+enum-known-k : tie.Need-enum-known-k
+enum-known-k c = search needs
+
+upper-requires : tie.Need-upper-requires
+upper-requires c κs = search needs
+
+enum-told : tie.Need-enum-told
+enum-told c = search needs
+
+check-on-requires : tie.Need-check-on-requires
+check-on-requires c κs =
+    passed (c .before .before .before .before .args .b .now) (sym (c .before .before .check .ensures) ∙ ap refusal (c .enum-told .given .1))
+
+returns : tie.Need-returns
+returns c =
+    let a = c .before .before .before .before .before .before .args in
+    let p = c .before .before .before .before .check .ensures in
+    let s = block-refused (a .b .now) _ (sym p ∙ ap refusal (c .before .before .k .given .1)) in
+    c .upper .ensures ∙ sym (ap (λ (z : Said MBR). packedBool (andThen z checkGeometrySays)) s)
+
+returns-2 : tie.Need-returns-2
+returns-2 c =
+    let a = c .before .before .before .before .before .args in
+    let p = c .before .before .before .check .ensures in
+    let s = block-done (a .b .now) _ (sym p ∙ ap refusal (c .before .enum-told .given .1)) refl in
+    c .check-on .ensures ∙ sym (ap (λ (z : Said MBR). packedBool (andThen z checkGeometrySays)) s)
+
+pub cv-check-geometry-spec : {M : Type 1} → statement M
+cv-check-geometry-spec =
+    tie.close
+    (tie.spec
+    check-requires
+    enum-known-k
+    upper-requires
+    enum-told
+    check-on-requires
+    returns
+    returns-2)

@@ -1,6 +1,0 @@
-use borrow.Author.Needs.{needs}
-use Rattle.abifree.proofs.cv_find_last_place.Statement.{statement}
-use Rattle.abifree.proofs.cv_find_last_place.Tie as tie
-
-pub cv-find-last-place-spec : {M : Type 1} → statement M
-cv-find-last-place-spec = tie.close (tie.spec (λ c κs. search needs) (λ c. search needs))

@@ -1,6 +1,0 @@
-use borrow.Author.Needs.{needs}
-use Rattle.abifree.proofs.cv_get_maximum_partition_size_for.Statement.{statement}
-use Rattle.abifree.proofs.cv_get_maximum_partition_size_for.Tie as tie
-
-pub cv-get-maximum-partition-size-for-spec : {M : Type 1} → statement M
-cv-get-maximum-partition-size-for-spec = tie.close (tie.spec (λ c κs. search needs) (λ c. search needs))

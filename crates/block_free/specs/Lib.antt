@@ -1,0 +1,4 @@
+pub mod Runs
+pub mod Place
+pub mod Size
+pub mod Free

@@ -1,0 +1,2 @@
+pub mod ByNumberRemoved
+pub mod AtSectorRemoved

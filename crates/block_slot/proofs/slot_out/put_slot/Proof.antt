@@ -1,0 +1,42 @@
+use mathlib.Core.Path.{_≡_}
+use lib.ListN.{length}
+use native.Mathlib.Omega.{arith}
+use Rattle.block_slot.proofs.slot_out.Parts.{slot-written}
+use borrow.Author.Needs.{needs}
+use Rattle.block_slot.proofs.slot_out.put_slot.Statement.{statement}
+use Rattle.block_slot.proofs.slot_out.put_slot.Tie as tie
+
+-- the code has 446 bytes
+long : (s : tie.Start) → length (s .args .l .kept .«bootstrap_code») ≡ 446
+long s = search needs
+
+put-slot-front-requires : tie.Need-put-slot-front-requires
+put-slot-front-requires c κs = search needs
+
+add-copy-in : tie.Need-add-copy-in
+add-copy-in c = search needs
+
+slice-aggregate-copy-in : tie.Need-slice-aggregate-copy-in
+slice-aggregate-copy-in c = search needs
+
+copy-in-requires : tie.Need-copy-in-requires
+copy-in-requires c κs = let n : length (c .before .before .before .before .before .before .before .before .args .l .kept .«bootstrap_code») ≡ 446 = search needs in
+    omega arith
+
+same-length : tie.Need-same-length
+same-length c = search needs
+
+returns : tie.Need-returns
+returns c = let s = c .before .before .before .before .before .before .before .before .before .before .before in
+    slot-written (s .args .d .now) _ _ (s .args .at) (s .args .l) (long s) (s .pre) (c .before .before .before .before .before .before .before .before .put-slot-front .ensures) (c .before .before .copy-in .ensures)
+
+pub put-slot-spec : {M : Type 1} → statement M
+put-slot-spec =
+    tie.close
+    (tie.spec
+    put-slot-front-requires
+    add-copy-in
+    slice-aggregate-copy-in
+    copy-in-requires
+    same-length
+    returns)

@@ -1,6 +1,0 @@
-use borrow.Author.Needs.{needs}
-use Rattle.blocknew.proofs.four.Statement.{statement}
-use Rattle.blocknew.proofs.four.Tie as tie
-
-pub four-spec : {M : Type 1} → statement M
-four-spec = tie.close (tie.spec (λ c. search needs) (λ c. search needs) (λ c. search needs) (λ c. search needs) (λ c. search needs))

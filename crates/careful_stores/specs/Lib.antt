@@ -1,0 +1,4 @@
+pub mod Space
+pub mod Stored
+pub mod Linked
+pub mod Behind

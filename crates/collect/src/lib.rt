@@ -1,1 +1,0 @@
-// An extract collected from a disk: what reading wants, laid over one after another.

@@ -1,6 +1,0 @@
-use borrow.Author.Needs.{needs}
-use Rattle.entry.proofs.MBRPartitionEntry.is_active.Statement.{statement}
-use Rattle.entry.proofs.MBRPartitionEntry.is_active.Tie as tie
-
-pub is-active-spec : {M : Type 1} → statement M
-is-active-spec = tie.close (tie.spec (λ c. search needs))

@@ -1,0 +1,4 @@
+pub mod Layover
+pub mod Cut
+pub mod Answers
+pub mod Plan

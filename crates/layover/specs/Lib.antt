@@ -1,3 +1,0 @@
-pub mod Layover
-pub mod Cut
-pub mod Answers

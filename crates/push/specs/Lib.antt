@@ -1,3 +1,0 @@
-pub mod Address
-pub mod Push
-pub mod Answers

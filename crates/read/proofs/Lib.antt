@@ -1,6 +1,0 @@
-pub mod Facts
-pub mod Looked
-pub mod Says
-pub mod Wants
-pub mod Collect
-pub mod Injective

@@ -1,1 +1,0 @@
-// Writing and then reading: the table comes back.

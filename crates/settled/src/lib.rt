@@ -1,1 +1,0 @@
-// The logical partitions of a block as writing leaves them, and what writing refuses of them: definitions and laws.

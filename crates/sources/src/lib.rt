@@ -1,1 +1,0 @@
-// The records of an extract to be written, and where each comes from: definitions and laws.

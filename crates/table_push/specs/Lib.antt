@@ -1,0 +1,4 @@
+pub mod Asked
+pub mod RequestAnswers
+pub mod Push
+pub mod Answers

@@ -1,0 +1,6 @@
+pub mod AsWritten
+pub mod Sources
+pub mod Records
+pub mod Write
+pub mod Answers
+pub mod Ranges

@@ -1,4 +1,0 @@
-pub mod Told
-pub mod Over
-pub mod Ranges
-pub mod Said

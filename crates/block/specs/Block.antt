@@ -159,22 +159,22 @@ tagsPart [] = []
 tagsPart (l ∷ ls) = tagOf l ∷ tagsPart ls
 
 -- rule Z9: where slot i and its tag stand
-abbrev pub slotPlace : ℕ → ℕ
-slotPlace i = slotsOffset + slotLength * i
+abbrev pub slotStart : ℕ → ℕ
+slotStart i = slotsOffset + slotLength * i
 
-abbrev pub tagPlace : ℕ → ℕ
-tagPlace i = tagsOffset + i
+abbrev pub tagStart : ℕ → ℕ
+tagStart i = tagsOffset + i
 
 -- the bytes of slot i, and its tag
 abbrev pub slotAt : List ℕ → ℕ → List ℕ
-slotAt b i = part b (slotPlace i) slotLength
+slotAt b i = part b (slotStart i) slotLength
 
 abbrev pub tagAt : List ℕ → ℕ → ℕ
-tagAt b i = getD b (tagPlace i) 0
+tagAt b i = getD b (tagStart i) 0
 
 -- a block with a logical partition in slot i
 unfoldable pub slotPut : List ℕ → ℕ → LogicalPartition → List ℕ
-slotPut b i l = put (put b (slotPlace i) (slotPart l)) (tagPlace i) (tagOf l ∷ [])
+slotPut b i l = put (put b (slotStart i) (slotPart l)) (tagStart i) (tagOf l ∷ [])
 
 -- a block with logical partitions in its first slots
 unfoldable pub slotsPut : List ℕ → List LogicalPartition → List ℕ

@@ -5,7 +5,7 @@ use table::LOGICALS;
 ghost use mathlib.Core.Path.{_≡_};
 ghost use Prim.Native.Nat.{_<_};
 ghost use Rattle.table.specs.Table.{most};
-ghost use Rattle.block.specs.Block.{slotPlace, tagPlace};
+ghost use Rattle.block.specs.Block.{slotStart, tagStart};
 
 // The bytes of an entry.
 pub const ENTRY: usize = 18;
@@ -28,7 +28,7 @@ pub const BLOCK: usize = TAGS_OFFSET + LOGICALS;
 // Where slot i stands.
 pub fn slot_at(i: usize) -> usize
     requires { ⌜ i < most ⌝ }
-    ensures { λ r. ⌜ r ≡ slotPlace i ⌝ }
+    ensures { λ r. ⌜ r ≡ slotStart i ⌝ }
 {
     SLOTS_OFFSET + SLOT * i
 }
@@ -36,7 +36,7 @@ pub fn slot_at(i: usize) -> usize
 // Where its tag stands.
 pub fn tag_at(i: usize) -> usize
     requires { ⌜ i < most ⌝ }
-    ensures { λ r. ⌜ r ≡ tagPlace i ⌝ }
+    ensures { λ r. ⌜ r ≡ tagStart i ⌝ }
 {
     TAGS_OFFSET + i
 }

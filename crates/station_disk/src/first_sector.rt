@@ -9,7 +9,7 @@ use station_words::hex;
 use station_words::slices;
 
 // The extended partition's first sector: there is none, it reads as a boot record, it is empty, or it is something else.
-pub const NO_EXTENDED: u8 = 0;
+pub const NO_CHAIN: u8 = 0;
 
 pub const READS: u8 = 1;
 
@@ -48,7 +48,7 @@ fn extended(x: &[u8]) -> Found {
 // What the extended partition's first sector is.
 pub fn state(x: &[u8]) -> u8 {
     match extended(x) {
-        Found::Nothing => NO_EXTENDED,
+        Found::Nothing => NO_CHAIN,
         Found::Entry(e) => state_of(extract::look_up_record::look_up(x, e.starting_lba)),
     }
 }

@@ -11,7 +11,7 @@ use Rattle.base.specs.Bytes.{bytesOf, little}
 use Rattle.base.specs.Put.{put}
 use Rattle.table.specs.Table.{most}
 use Rattle.base.proofs.Put.{laid-put, put-put, length-put}
-use Rattle.block.specs.Block.{part, slotLength, slotsOffset, tagsOffset, blockLength, slotPlace, tagPlace}
+use Rattle.block.specs.Block.{part, slotLength, slotsOffset, tagsOffset, blockLength, slotStart, tagStart}
 use Rattle.block_slot.specs.Changed.{withCount, withoutSlot}
 use Rattle.block.proofs.Forth.{part-long}
 use Rattle.block.proofs.Over.{put-behind, part-alike}
@@ -80,7 +80,7 @@ dropped d e f g n k l h m p q u =
     z₂ = omega arith
 
 -- from their places
-pub dropped-at : (d e f g : List ℕ) (n k o p : ℕ) → length d ≡ blockLength → k < n → n ≤ most → o ≡ slotPlace k → p ≡ tagPlace k → e ≡ put d 12 (bytesOf little 4 (n - 1))
+pub dropped-at : (d e f g : List ℕ) (n k o p : ℕ) → length d ≡ blockLength → k < n → n ≤ most → o ≡ slotStart k → p ≡ tagStart k → e ≡ put d 12 (bytesOf little 4 (n - 1))
     → f ≡ put e o (part e (o + slotLength) (slotLength * (n - 1 - k))) → g ≡ put f p (part f (p + 1) (n - 1 - k)) → g ≡ withoutSlot d n k
 dropped-at d e f g n k o p l h m x y u v w =
     dropped d e f g n k l h m u (v ∙ ap (λ (o : ℕ). put e o (part e (o + slotLength) (slotLength * (n - 1 - k)))) x) (w ∙ ap (λ (p : ℕ). put f p (part f (p + 1) (n - 1 - k))) y)

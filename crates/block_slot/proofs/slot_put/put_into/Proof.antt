@@ -2,7 +2,7 @@ use mathlib.Core.Path.{ap, _∙_}
 use mathlib.Core.List.{List, [], _∷_}
 use Prim.Native.Nat.{ℕ}
 use Rattle.base.specs.Put.{put}
-use Rattle.block.specs.Block.{slotPart, slotPlace, tagPlace, slotPut}
+use Rattle.block.specs.Block.{slotPart, slotStart, tagStart, slotPut}
 use borrow.Author.Needs.{needs}
 use Rattle.block_slot.proofs.slot_put.put_into.Statement.{statement}
 use Rattle.block_slot.proofs.slot_put.put_into.Tie as tie
@@ -32,10 +32,10 @@ returns c =
     let t = c .before .before .before .before .before .before .before .before .before .before .tag-of in
     let q = c .before .before .before .before .before .before .before .put-slot .ensures in
     let o = ap (λ (n : ℕ). put (s .args .b .now) n (slotPart (s .args .l))) (c .before .before .before .before .before .before .before .before .slot-at .ensures) in
-    let d = put (s .args .b .now) (slotPlace (s .args .i)) (slotPart (s .args .l)) in (
+    let d = put (s .args .b .now) (slotStart (s .args .i)) (slotPart (s .args .l)) in (
       c .before .before .put8 .ensures ∙ ap (λ (x : List ℕ). put x (c .before .before .before .tag-at .result) (t .result ∷ [])) (q .0 ∙ o)
           ∙ ap (λ (n : ℕ). put d n (t .result ∷ [])) (c .before .before .before .tag-at .ensures)
-          ∙ ap (λ (v : ℕ). put d (tagPlace (s .args .i)) (v ∷ [])) (t .ensures),
+          ∙ ap (λ (v : ℕ). put d (tagStart (s .args .i)) (v ∷ [])) (t .ensures),
       q .1,
     )
 

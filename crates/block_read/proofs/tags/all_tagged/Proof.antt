@@ -1,62 +1,26 @@
-use Rattle.block_read.proofs.tags.Tags.{tags-wrong, tags-go-on, tags-end}
-use Rattle.block.specs.Block.{tagged}
+use Rattle.block_read.proofs.tags.Tags.{first-wrong, first-right}
 use Rattle.table.specs.Table.{most}
-use mathlib.Core.Path.{_≡_, refl, sym, _∙_}
-use Prim.Native.Nat.{_-_, _≤_}
-use native.Mathlib.Omega.{arith}
+use mathlib.Core.Path.{sym, _∙_}
+use Prim.Native.Nat.{_*_, _/_, _%_}
 use borrow.Author.Needs.{needs}
 use Rattle.block_read.proofs.tags.all_tagged.Statement.{statement}
 use Rattle.block_read.proofs.tags.all_tagged.Tie as tie
 
-abbrev Inv-loop : tie.InvT-loop
-Inv-loop b i₀ i = (i ≤ most) × (tagged b 0 most ≡ tagged b i (most - i))
+words-tagged-requires : tie.Need-words-tagged-requires
+words-tagged-requires c κs = search needs
 
-abbrev μ-loop : tie.MeasureT-loop
-μ-loop b i₀ i = most - i
+rest-tagged-requires : tie.Need-rest-tagged-requires
+rest-tagged-requires c κs = search needs
 
-loop-holds : tie.Need-loop-holds Inv-loop μ-loop
-loop-holds c = (search needs, refl)
-
-add-if1 : tie.Need-add-if1 Inv-loop μ-loop
-add-if1 c = search needs
-
-shared-slice-read-if1 : tie.Need-shared-slice-read-if1 Inv-loop μ-loop
-shared-slice-read-if1 c = search needs
-
-returns : tie.Need-returns Inv-loop μ-loop
+returns : tie.Need-returns
 returns c =
-    let l = c .before .before .before .loop in
-    let b = c .before .before .before .before .args .b .now in
-    sym (l .inv .1 ∙ tags-wrong b (l .i) most (search needs) (c .if1 .taken))
+    let w = c .before .before in
+    c .rest-tagged .ensures ∙ sym (first-right (w .before .before .args .b .now) (8 * (most / 8)) (most % 8) (sym (w .words-tagged .ensures) ∙ c .before .if1 .taken))
 
-add-i : tie.Need-add-i Inv-loop μ-loop
-add-i c = search needs
-
-loop-less : tie.Need-loop-less Inv-loop μ-loop
-loop-less c = search needs
-
-loop-again : tie.Need-loop-again Inv-loop μ-loop
-loop-again c =
-    let l = c .before .before .before .loop in
-    let b = c .before .before .before .before .args .b .now in
-    (search needs, l .inv .1 ∙ tags-go-on b (l .i) most (search needs) (c .if1 .left))
-
-returns-2 : tie.Need-returns-2 Inv-loop μ-loop
+returns-2 : tie.Need-returns-2
 returns-2 c =
-    let l = c .before .loop in
-    sym (l .inv .1 ∙ tags-end (c .before .before .args .b .now) (l .i) most (c .loop-test .left))
+    let w = c .before in
+    c .if1 .left ∙ sym (first-wrong (w .before .before .args .b .now) (8 * (most / 8)) (most % 8) (sym (w .words-tagged .ensures) ∙ c .if1 .left))
 
 pub all-tagged-spec : {M : Type 1} → statement M
-all-tagged-spec =
-    tie.close
-    (tie.spec
-    Inv-loop
-    μ-loop
-    loop-holds
-    add-if1
-    shared-slice-read-if1
-    returns
-    add-i
-    loop-less
-    loop-again
-    returns-2)
+all-tagged-spec = tie.close (tie.spec words-tagged-requires rest-tagged-requires returns returns-2)

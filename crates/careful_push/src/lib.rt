@@ -1,5 +1,5 @@
 // Careful push over an extract: stores in lent bytes, or a refusal.
-// Scope: Careful changes (Careful push; refusals 20, 23, 12, 21, 19). Rules: K.
+// Scope: Careful changes (Careful push; refusals 20, 23, 12, 21, 19). Rules: K, defined in `careful`.
 // For callers: `careful_push`, `Changed`.
 pub mod askable;
 

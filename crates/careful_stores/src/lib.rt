@@ -1,5 +1,5 @@
 // The stores of a careful change, put into lent bytes.
-// Scope: Careful changes (First-place rule; a store is its LBA and a record; zeros at X). Rules: K, V.
+// Scope: Careful changes (a store is its LBA and a record; the first logical moved to X; zeros at X). Rules: K, V.
 // For our crates: `ebr_store`, `push_stores::push_new`, `push_writer::put_push`, `Changed`.
 pub mod ebr_store;
 pub mod push_stores;

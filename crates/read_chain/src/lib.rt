@@ -1,5 +1,5 @@
 // The chain of an extract, walked by EBR step, link step; the logical partitions in it.
-// Scope: Reading (a chain is one EBR and what follows it; the first EBR forgiven; link fields); module 4. Rules: R.
+// Scope: Reading, module 4: the chain as `chain` defines it. Rules: R.
 // For our crates: `read_chain`, `logicals::attach`.
 pub mod logicals;
 

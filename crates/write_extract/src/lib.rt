@@ -1,5 +1,5 @@
 // The new extract of a table that is written.
-// Scope: module 8 (the old extract with records laid over; 22, 19). Rules: W.
+// Scope: module 8 (the old extract with record 0 and each EBR laid over in chain order; 22, 19). Rules: W, defined in `write_rules`.
 // For our crates: `put_table`.
 pub mod plan_for;
 

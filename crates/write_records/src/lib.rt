@@ -1,5 +1,5 @@
-// The records of the new extract: the old ones, record 0, each EBR in chain order.
-// Scope: module 8 (record 0 and each EBR laid over). Rules: W.
+// The records of the new extract, each in its planned place, by ascending LBA.
+// Scope: module 8. Rules: W, defined in `write_rules`.
 // For our crates: `put_records`.
 pub mod one_record;
 

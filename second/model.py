@@ -6,7 +6,6 @@ Tables are values that never change, so a refusal leaves the given table as it w
 output is a bytearray that is written only once nothing can be refused any more.
 """
 from dataclasses import dataclass, field, replace
-from math import gcd
 from typing import Dict, List, NamedTuple, Optional, Tuple
 
 LOGICALS = 24  # logical partitions of a table
@@ -400,16 +399,17 @@ def read_chain(disk: Disk, extended: Entry) -> Tuple[Logical, ...]:
 
 
 def find_alignment(starts: List[int]) -> int:
-    """The alignment of the used starts."""
+    """The alignment of the used starts: of the numbers from 1 on, the largest that divides each of them."""
     if not starts:
         return DEFAULT_ALIGN
     if starts == [1]:
         return 1
-    common = gcd(*starts)  # what divides every start divides this; 0 if all are 0
-    for divisor in range(min(MAX_ALIGN, common), 0, -1):
-        if common % divisor == 0:
-            return divisor
-    raise Refusal(7)
+    divisors = range(1, min(MAX_ALIGN, max(starts)) + 1)
+    for start in starts:
+        divisors = [k for k in divisors if start % k == 0]
+    if not divisors:
+        raise Refusal(7)
+    return divisors[-1]
 
 
 def all_entries(header: Header, logicals: Tuple[Logical, ...]) -> List[Entry]:

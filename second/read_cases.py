@@ -163,6 +163,53 @@ def alignment_cases():
     read(with_header(header_of(part(0, 7, 9), part(0x83, 0, 9), part(0, 3, 3))))
 
 
+# Primes below and above 16,384; the last one is the highest below 2 to the 32nd.
+BELOW = (127, 131, 8191, 16369, 16381)
+ABOVE = (16411, 16417, 65537, 1000003, 2147483647, 4294967291)
+
+
+def started(starts, zeros=0):
+    """A disk with these used starts: up to three primaries, then the extended entry and the partitions of its chain, whose
+    EBRs lie one behind the other, so that the starts ascend from the extended entry on. So many primaries start at 0."""
+    primaries, others = starts[:3], starts[3:]
+    entries = [part(0x83, 0 if k < zeros else start, 1) for k, start in enumerate(primaries)]
+    records = {}
+    if others:
+        first = others[0]
+        entries.append(part(0x05, first, 1))
+        for k, start in enumerate(others[1:]):
+            link = part(0x05, k + 1, 1) if k + 2 < len(others) else m.NO_ENTRY
+            records[first + k] = m.ebr_bytes(EBR(bytes(446), part(0x83, start - first - k, 1), link))
+    return disk(BIG, {0: m.header_bytes(header_of(*entries)), **records})
+
+
+def divisor_cases():
+    note("reading: the alignment where the greatest common divisor is a prime, a power of two, or a product of two primes")
+    products = [p * q for p in BELOW for q in BELOW + ABOVE[:4] if p <= q] + [16411 * 16417, 65521 * 65537]
+    for one in BELOW + ABOVE + tuple(2 ** k for k in range(13, 32)) + tuple(p for p in products if p <= BIG):
+        near.lend(with_header(header_of(part(0x83, one, 1))))
+        case("read")
+    note("reading: the alignment where it is not the lowest start, and zeros among the starts")
+    for one in (1, 2, 127, 16369, 16381, 16384, 16385, 16411, 2 * 16411, 127 * 131, 65537):
+        for times in ((2, 3), (3, 2), (6, 10, 15), (4, 6, 9, 21), (0, 2, 3), (2, 0, 3), (35, 0, 21, 0), (0, 0, 14, 77)):
+            near.lend(with_header(header_of(*(part(0x83, one * k, 1) for k in times))))
+            case("read")
+    note("reading: the alignment where Euclid's rule takes its longest way")
+    for starts in ((2971215073, 1836311903), (1836311903, 2971215073), (2971215073, 1836311903, 0, 1134903170)):
+        near.lend(with_header(header_of(*(part(0x83, start, 1) for start in starts))))
+        case("read")
+    note("reading: the alignment of 0 to 28 used starts")
+    rng = c.Seeded(808)
+    common = (1, 63, 2048, 16381, 16384, 16411, 32768, 2 * 16411, 127 * 131, 65537)
+    for n in range(4 + MOST + 1):
+        one = common[n % len(common)]
+        times = sorted(rng.between(2, BIG // one) for _ in range(n))
+        near.lend(started([one * k for k in times], rng.below(4)))
+        case("read")
+    near.lend(started([0, 0, 0, BIG]))
+    case("read")
+
+
 # ---------------------------------------------------------------- the chain
 
 
@@ -403,7 +450,7 @@ def seeded_cases():
 
 
 if __name__ == "__main__":
-    for section in (header_cases, alignment_cases, extended_cases, first_cases, later_cases, last_cases, link_cases,
+    for section in (header_cases, alignment_cases, divisor_cases, extended_cases, first_cases, later_cases, last_cases, link_cases,
                     wanted_cases, seeded_cases):
         section()
     print("\n".join(c.lines))

@@ -66,16 +66,6 @@ noStarts = record { at = replicate mostStarts 0; count = 0 }
 unfoldable pub withStart : Starts → MBRPartitionEntry → Starts
 withStart s e = pick (used (e .sys)) (record { at = set (s .at) (s .count) (e .«starting_lba»); count = s .count + 1 }) s
 
--- the lowest number above 0, where a search may begin; 0 if there is none
-unfoldable pub lowerOf : ℕ → ℕ → ℕ
-lowerOf zero b = b
-lowerOf (suc a) zero = suc a
-lowerOf (suc a) (suc b) = min (suc a) (suc b)
-
-unfoldable pub lowest : List ℕ → ℕ
-lowest [] = 0
-lowest (s ∷ ss) = lowerOf s (lowest ss)
-
 -- the rule in other words: k divides them all, and no larger number up to n does
 pub record Largest (k n : ℕ) (ss : List ℕ) : Type 0 where
   pub above : 1 ≤ k

@@ -1,6 +1,7 @@
 // The alignment of a table: found from its used starts.
 // Scope: Reading (Alignment); module 4. Rules: A.
 // For callers: `find_alignment`; for our crates `Starts`, `used_starts::starts_of`.
+mod divisor;
 pub mod used_starts;
 
 use base::Refusal;
@@ -8,9 +9,12 @@ use record_entry::MBRPartitionEntry;
 use table::MBR;
 ghost use mathlib.Core.Path.{_≡_};
 ghost use mathlib.Core.List.{_++_, [], _∷_};
-ghost use Prim.Native.Nat.{_+_, _≤_, _<_, min};
+ghost use mathlib.Core.Option.{some};
+ghost use Prim.Native.Nat.{_+_, _≤_, _<_};
 ghost use lib.ListN.{length, take};
-ghost use Rattle.read_align.specs.Align.{usedStarts, dividesAll, lowerOf, lowest, alignment, alignedSaid, startsIn, noStarts, withStart, mostStarts};
+ghost use Rattle.table.specs.Table.{greatestAlign};
+ghost use Rattle.read_align.specs.Align.{usedStarts, divisorTo, alignment, alignedSaid, startsIn, noStarts, withStart, mostStarts};
+ghost use Rattle.read_align.specs.Divisor.{SameDivisors};
 
 // An alignment, or a refusal.
 pub enum Aligned {
@@ -62,64 +66,42 @@ impl Starts {
     }
 }
 
-// Does k divide every number?
-fn divides_all(starts: &[u32], k: u32) -> bool
-    requires { ⌜ 0 < k ⌝ }
-    ensures { λ r. ⌜ r ≡ dividesAll k (now (starts .entry)) ⌝ }
+// The greatest common divisor of all starts; 0 if all are zero. It begins with 0, which every number divides.
+fn common_divisor(starts: &[u32]) -> u32
+    ensures { λ r. ⌜ SameDivisors r (now (starts .entry)) ⌝ }
 {
+    let mut g = 0;
     for i in 0..starts.len() {
-        if starts[i] % k != 0 {
-            return false;
-        }
+        g = crate::divisor::gcd(starts[i], g);
     }
-    true
+    g
 }
 
-// The lowest number above 0; 0 if there is none.
-fn lowest_of(starts: &[u32]) -> u32
-    ensures { λ r. ⌜ r ≡ lowest (now (starts .entry)) ⌝ }
+// The largest divisor up to 16,384: the number itself, if it is not above.
+fn largest_divisor(n: u32) -> u32
+    requires { ⌜ 0 < n ⌝ }
+    ensures { λ r. ⌜ divisorTo greatestAlign (n ∷ []) ≡ some r ⌝ }
 {
-    let mut least = 0;
-    for i in 0..starts.len() {
-        least = lower(least, starts[i]);
+    if n <= MBR::MAX_ALIGN {
+        return n;
     }
-    least
+    let mut k = MBR::MAX_ALIGN;
+    while n % k != 0 {
+        k -= 1;
+    }
+    k
 }
 
-// The lower of two numbers, 0 left aside.
-fn lower(a: u32, b: u32) -> u32
-    ensures { λ r. ⌜ r ≡ lowerOf a b ⌝ }
-{
-    if a == 0 {
-        return b;
-    }
-    if b == 0 {
-        return a;
-    }
-    smaller(a, b)
-}
-
-fn smaller(a: u32, b: u32) -> u32
-    ensures { λ r. ⌜ r ≡ min a b ⌝ }
-{
-    if a < b { a } else { b }
-}
-
-// The alignment of used starts: 7 where all are zero. No number above a start that is not 0 divides it, so the search
-// counts down from the lowest of them.
+// The alignment of used starts: the largest divisor up to 16,384 of their greatest common divisor; 7 where all are zero.
 pub fn find_alignment(starts: &[u32]) -> Aligned
     ensures { λ r. ⌜ alignedSaid r ≡ alignment (now (starts .entry)) ⌝ }
 {
     if starts.len() == 0 {
         return Aligned::Align(MBR::DEFAULT_ALIGN);
     }
-    let top = smaller(MBR::MAX_ALIGN, lowest_of(starts));
-    let mut k = top;
-    while 0 < k {
-        if divides_all(starts, k) {
-            return Aligned::Align(k);
-        }
-        k -= 1;
+    let g = common_divisor(starts);
+    if g == 0 {
+        return Aligned::Refused(Refusal::ARITHMETIC);
     }
-    Aligned::Refused(Refusal::ARITHMETIC)
+    Aligned::Align(largest_divisor(g))
 }

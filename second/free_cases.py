@@ -6,7 +6,7 @@ import model as m
 import table_cases as t
 from cases import BIG, HIGHEST, MOST, note, part
 from disk_k import disk_k
-from read_cases import D, EXTENDED, chain, chained, records_of, with_header
+from read_cases import D, EXTENDED, chain, chained, empty_first, records_of, with_header
 from table_cases import FULL, lend, on_table, one_extended
 
 
@@ -172,7 +172,21 @@ def lent_cases():
             on_table("update_lent", at, geometry=geometry)
 
 
+def empty_cases():
+    note("free runs and places: a first EBR without a partition, alone and before others")
+    for n in (1, 2, 3, MOST):
+        lend(chained(records_of(empty_first(n)), extended=replace(EXTENDED, sectors=4900)))
+        for align in (1, 7, 100, 2048):
+            on_table("free", align=align)
+            on_table("most", align=align)
+            for number in (5, 6):
+                on_table("most_for", number, align=align)
+            for word in PLACES:
+                on_table(word, 500, align=align)
+        on_table("free_into", 7, 9, align=100)
+
+
 if __name__ == "__main__":
-    for section in (free_cases, place_cases, lent_cases):
+    for section in (free_cases, place_cases, lent_cases, empty_cases):
         section()
     print("\n".join(c.lines))

@@ -74,6 +74,12 @@ def changed(ebr, partition=None, link=None):
     return replace(ebr, partition=replace(ebr.partition, **(partition or {})), link=replace(ebr.link, **(link or {})))
 
 
+def empty_first(n):
+    """That chain, its first EBR without a partition."""
+    ebrs = chain(n)
+    return [replace(ebrs[0], partition=m.NO_ENTRY)] + ebrs[1:]
+
+
 def damaged(record, at, text):
     record = bytearray(record)
     new = bytes.fromhex(text)
@@ -419,6 +425,18 @@ def wanted_cases():
         read(disk(20480, {0: damaged(zero, at, text)}))
 
 
+def empty_cases():
+    note("reading: a first EBR without a partition, alone and before others")
+    for n in (1, 2, 3, MOST, MOST + 1):
+        ebrs = empty_first(n)
+        read(chained(records_of(ebrs)))
+        for fields in ({"boot": 0x80}, {"boot": 1}, {"first_chs": CHS(1023, 255, 63), "last_chs": CHS(1023, 255, 63)},
+                       {"starting_lba": 1}, {"sectors": 1}, {"sys": 0x83}):
+            read(chained(records_of([changed(ebrs[0], fields)] + ebrs[1:])))
+    read(chained(records_of(empty_first(2)), extended=replace(EXTENDED, sectors=1)))
+    read(chained({1: m.ebr_bytes(EBR(code(5), m.NO_ENTRY, m.NO_ENTRY))}, disk_size=2, extended=part(0x05, 1, 1)))
+
+
 def seeded_cases():
     note("reading: seeded chains")
     rng = c.Seeded(707)
@@ -451,6 +469,6 @@ def seeded_cases():
 
 if __name__ == "__main__":
     for section in (header_cases, alignment_cases, divisor_cases, extended_cases, first_cases, later_cases, last_cases, link_cases,
-                    wanted_cases, seeded_cases):
+                    wanted_cases, empty_cases, seeded_cases):
         section()
     print("\n".join(c.lines))

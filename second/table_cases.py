@@ -5,7 +5,7 @@ import cases as c
 import model as m
 from cases import BIG, HIGHEST, MOST, case, note, part
 from disk_k import disk_k
-from read_cases import EXTENDED, chain, chained, disk, records_of, with_header
+from read_cases import EXTENDED, chain, chained, disk, empty_first, records_of, with_header
 
 UNSET = (0, 0, 0)
 near = c.Near()
@@ -232,7 +232,25 @@ def push_cases():
                  geometry=rng.of((UNSET, (1023, 255, 63), (500, 16, 63), (1023, 255, 0))))
 
 
+def empty_cases():
+    note("lookup, small changes and push: a first EBR without a partition, alone and before others")
+    for n in (1, 2, 3, MOST - 1):
+        lend(chained(records_of(empty_first(n))))
+        on_table("len")
+        for number in (4, 5, 6, 7, 4 + n, 5 + n):
+            on_table("get", number)
+            on_table("remove", number)
+        for sector in (4999, 5000, 5001, 5109, 5110, 8999):
+            on_table("find", sector)
+            on_table("remove_at", sector)
+        for at in range(min(n, 2)):
+            on_table("update_chs", at, geometry=(1023, 255, 63))
+        for start in (5000, 5001, 5100, 8000):
+            for geometry in (UNSET, (1023, 255, 63)):
+                push(start, 2, align=1, geometry=geometry, word="push_all")
+
+
 if __name__ == "__main__":
-    for section in (lookup_cases, from_cases, chs_cases, push_cases):
+    for section in (lookup_cases, from_cases, chs_cases, push_cases, empty_cases):
         section()
     print("\n".join(c.lines))

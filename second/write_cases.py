@@ -6,7 +6,7 @@ import model as m
 from cases import BIG, HIGHEST, MOST, RECORDS, case, note, part
 from disk_k import disk_k
 from model import CHS
-from read_cases import D, EXTENDED, STEP, X, chain, chained, disk, records_of, with_header
+from read_cases import D, EXTENDED, STEP, X, chain, chained, disk, empty_first, records_of, with_header
 
 UNSET = (0, 0, 0)
 WIDE = (1023, 255, 63)
@@ -342,6 +342,18 @@ def removed_cases():
             back(n + 1)
 
 
+def empty_cases():
+    note("writing: a first EBR without a partition, alone and before others")
+    for n in (1, 3):
+        x = chained(records_of(empty_first(n)))
+        lend(x, x)
+        for geometry in (UNSET, WIDE):
+            write(geometry=geometry)
+            back(n + 1)
+        write(handed=n - 1)
+        back(n + 1)
+
+
 def seeded_cases():
     note("writing: seeded")
     rng = c.Seeded(707)
@@ -358,6 +370,6 @@ def seeded_cases():
 
 
 if __name__ == "__main__":
-    for section in (count_cases, place_cases, geometry_cases, room_cases, refusal_cases, removed_cases, seeded_cases):
+    for section in (count_cases, place_cases, geometry_cases, room_cases, refusal_cases, removed_cases, empty_cases, seeded_cases):
         section()
     print("\n".join(c.lines))

@@ -51,6 +51,26 @@ def chain_with(n, k, partition=None, link=None):
     return sound_chain(n, ebrs=ebrs)
 
 
+NOTHING = {"sys": 0, "starting_lba": 0, "sectors": 0}
+
+
+def first_with(n, partition=None, link=None, kind=0x0F, size=512):
+    """That chain with the first entry empty, flagged and addressed, and further fields of the first EBR changed."""
+    ebrs = links(n)
+    ebrs[0] = changed(ebrs[0], {**NOTHING, "boot": 0x80, **(partition or {})}, link)
+    return sound_chain(n, kind, size, ebrs=ebrs)
+
+
+def small(disk_size, sectors, *ebrs):
+    """A disk of so many sectors with an extended partition of so many from sector 1 on: the place of each EBR, its
+    partition's type, relative start and sectors, and the place and sectors that its link gives, places on the disk."""
+    records = {}
+    for place, sys, start, length, link in ebrs:
+        following = part(0x05, link[0] - 1, link[1]) if link else m.NO_ENTRY
+        records[place] = m.ebr_bytes(EBR(bytes(446), part(sys, start, length), following))
+    return chained(records, disk_size=disk_size, extended=part(0x05, 1, sectors))
+
+
 def primaries(*entries, disk_size=30000):
     """A chain of two and these entries beside the extended one."""
     return chained(records_of(links(2)), disk_size=disk_size, extended=SPACE, more=entries)
@@ -67,6 +87,35 @@ UNSOUND = (
     chain_with(3, 0, {"starting_lba": 0}), chain_with(3, 0, {"sectors": 91}), chain_with(3, 1, {"sectors": 91}),
     chain_with(3, 2, {"sectors": BIG}), chain_with(3, 0, {}, {"sectors": 0}), chain_with(3, 1, {}, {"sectors": 0}),
     chain_with(3, 1, {}, {"sectors": 19801}), chain_with(3, 0, {}, {"sectors": 88}), chain_with(3, 1, {}, {"sectors": 87}),
+)
+# Each has a first or a later entry of type 0 that is not sound, or an empty first one and one rule broken beside it.
+UNSOUND_EMPTY = (
+    chain_with(1, 0, {"sys": 0}), chain_with(3, 0, {"sys": 0}), first_with(1, {"starting_lba": 1}), first_with(3, {"starting_lba": 1}),
+    first_with(1, {"starting_lba": BIG - 5000}), first_with(1, {"sectors": 1}), first_with(3, {"sectors": 1}),
+    first_with(1, {"sectors": BIG}), first_with(3, {"starting_lba": 10, "sectors": 80}), first_with(1, {"sys": 0x83}),
+    first_with(3, {"sys": 0x83}), first_with(1, {"sys": 0x05}), first_with(3, {"sys": 0x0F}), first_with(3, {"sys": 0x83, "sectors": 1}),
+    first_with(3, {"sys": 0x83, "starting_lba": 1}),
+    chain_with(2, 1, NOTHING), chain_with(3, 1, NOTHING), chain_with(3, 2, NOTHING), chain_with(2, 1, {"sys": 0}),
+    chain_with(2, 1, {"sys": 0, "starting_lba": 0}), chain_with(2, 1, {"sys": 0, "sectors": 0}),
+    first_with(2, {}, {"sectors": 0}), first_with(2, {}, {"sectors": 88}), first_with(2, {}, {"sectors": 19901}),
+    sound_chain(2, ebrs=[changed(ebr, NOTHING) for ebr in links(2)]),
+    sound_chain(3, ebrs=[links(3)[0]] + [changed(ebr, NOTHING) for ebr in links(3)[1:]]),
+    chained(records_of([changed(links(1)[0], NOTHING)]), disk_size=24999, extended=SPACE),
+    chained(records_of([changed(links(1)[0], NOTHING)]), disk_size=30000, extended=replace(SPACE, sectors=0)),
+    chained(records_of([changed(links(1)[0], NOTHING)]), disk_size=30000, extended=SPACE, more=(part(0x83, 5000, 1),)),
+    # X 0: the MBR is the first EBR, and its first entry is empty.
+    with_header(c.header_of(m.NO_ENTRY, part(0x05, 0, 9), part(0x83, 64, 9))),
+    small(4, 3, (1, 0, 0, 0, (2, 2)), (2, 0, 0, 0, None)), small(4, 3, (1, 0, 0, 0, (3, 1)), (3, 0x83, 1, 1, None)),
+)
+# Each has an empty first entry, and is sound.
+EMPTY_FIRST = (
+    first_with(1), first_with(2), first_with(3), first_with(MOST), first_with(2, {"boot": 0}),
+    first_with(2, {"first_chs": m.NO_CHS, "last_chs": m.NO_CHS}),
+    first_with(2, {"first_chs": CHS(1023, 255, 63), "last_chs": CHS(1023, 255, 63)}), first_with(1, {}, {"boot": 0x80, "sys": 0x83}),
+    first_with(1, {}, {"first_chs": CHS(1, 2, 3), "last_chs": CHS(4, 5, 6), "sectors": BIG}), first_with(2, {}, {"sectors": 89}),
+    first_with(2, {}, {"sectors": 19900}), first_with(2, {}, {"sys": 0, "boot": 0x80}),
+    small(2, 1, (1, 0, 0, 0, None)), small(3, 2, (1, 0, 0, 0, None)), small(5, 4, (1, 0, 0, 0, None)),
+    small(4, 3, (1, 0, 0, 0, (2, 2)), (2, 0x83, 1, 1, None)), small(9, 8, (1, 0, 0, 0, (2, 2)), (2, 0x83, 1, 1, (4, 2)), (4, 0x82, 1, 1, None)),
 )
 # Each is at the limit of a rule, and sound.
 AT_LIMITS = (
@@ -176,6 +225,13 @@ def refusal_cases():
         push(0, 0, 0, 0, (1, 1, 64), 0)
         remove(5)
         remove(0, 0)
+    note("careful changes: entries of type 0 that are not sound")
+    for x in UNSOUND_EMPTY:
+        near.lend(x)
+        push(6000, 200, align=1)
+        push(0, 0, 0, 0, (1, 1, 64), 0)
+        remove(5)
+        remove(0, 0)
     note("careful changes: what is just sound")
     for x in AT_LIMITS:
         near.lend(x)
@@ -226,6 +282,100 @@ def removal_cases():
     push(6000, 200, align=1)
 
 
+# ---------------------------------------------------------------- an empty first entry
+
+
+def empty_first_cases():
+    note("careful changes: an empty first entry, alone, before one and before others")
+    for x in EMPTY_FIRST:
+        near.lend(x)
+        t = m.read_table(x)
+        place = t.header.extended().starting_lba
+        ends = sorted({place, m.end_of(t.logicals, len(t.logicals) - 1)} | {l.absolute_ebr_lba for l in t.logicals[1:3]})
+        for start in sorted({at + more for at in ends for more in (-1, 0, 1)} - {0}):
+            push(start, 2, align=1)
+        push(6000, 200, align=1)
+        push(24000, 1000, 0x07, 100, FULL)
+        for number in sorted({4, 5, 6, 7, 4 + len(t.logicals), 5 + len(t.logicals)}):
+            remove(number)
+    note("careful changes: an empty first entry alone, both sides of its end and of every other limit")
+    for sectors in (1, 2, 3, 4, 5):
+        near.lend(small(sectors + 1, sectors, (1, 0, 0, 0, None)))
+        for start in range(sectors + 3):
+            for length in (1, 2, 3, 4):
+                push(start, length, align=1)
+        push(1, 4, align=2)
+        push(2, 4, align=2)
+        remove(5)
+    near.lend(small(6, 5, (1, 0, 0, 0, (2, 2)), (2, 0x83, 1, 1, None)))
+    for start in range(7):
+        push(start, 2, align=1)
+    note("careful changes: an empty first entry in an extended partition at the highest places")
+    for sectors in (1, 2, 3, 4):
+        place = BIG - sectors
+        near.lend(chained({place: m.ebr_bytes(EBR(b"\x07" + bytes(445), replace(m.NO_ENTRY, boot=0x80), m.NO_ENTRY))},
+                          disk_size=BIG, extended=part(0x05, place, sectors)))
+        for start in range(place - 1, BIG + 1):
+            for align in (1, 2):
+                push(start, 2 * align, align=align)
+        remove(5)
+    note("careful changes: an empty first entry, alignments, geometries and the lent output")
+    for n in (1, 2):
+        near.lend(first_with(n))
+        for align in (2, 63, 100, 2048, 5000, 5001):
+            for start in (5000, 5001, 4999, 5101, 10000):
+                push(start, 2 * align, align=align)
+        for geometry in (FULL, (500, 16, 63), (1, 16, 63), (6, 16, 63), (1023, 1, 4), (1023, 255, 64), (1023, 0, 63)):
+            push(5000, 300, align=100, geometry=geometry)
+            push(5200, 300, align=100, geometry=geometry)
+        for room in (0, m.STORE, m.STORES - 1, m.STORES, m.STORES + 1):
+            push(6000, 200, align=100, room=room)
+            push(5000, 200, align=100, room=room)
+            remove(5, room)
+            remove(6, room)
+        push(5000, 20001, align=1)
+        push(5000, 20001, 0, align=1)
+        push(5000, 2, 0x05, align=1)
+        push(5000, 1, align=1)
+    near.lend(first_with(MOST - 1))
+    push(8000, 200, align=100)
+    push(5000, 200, align=100)
+    near.lend(first_with(MOST))
+    push(8000, 200, align=100)
+    push(5000, 200, align=100)
+    note("careful changes: an empty first entry, every type of extended entry, every sector size")
+    for n in (1, 3):
+        for kind in m.EXTENDED_TYPES:
+            for size in m.SECTOR_SIZES:
+                near.lend(first_with(n, kind=kind, size=size))
+                push(6000, 300, align=100)
+                for number in (5, 6):
+                    remove(number)
+    note("careful changes: a first EBR with another flag, without 55 AA, or of zeros is none")
+    for n in (1, 2):
+        x = first_with(n)
+        at = len(x) - 512 * n
+        for change in ((446, "01"), (462, "01"), (510, "55ab"), (510, "0000")):
+            near.lend(damaged(x, at + change[0], change[1]))
+            for start in (5000, 5001, 6000):
+                push(start, 2, align=1)
+            remove(5)
+        near.lend(damaged(x, at, "00" * 512))
+        push(5000, 2, align=1)
+        remove(5)
+    note("careful changes: an empty first entry, code and further bytes")
+    ebrs = [coded(ebr, 70 + k) for k, ebr in enumerate(links(3))]
+    ebrs[0] = changed(ebrs[0], NOTHING)
+    records = {lba: damaged(record, 478, "ff" * 32) for lba, record in records_of(ebrs).items()}
+    near.lend(chained(records, disk_size=30000, extended=SPACE))
+    push(6000, 200, align=1)
+    for number in (5, 6, 7):
+        remove(number)
+    near.lend(chained({5000: records[5000][:462] + bytes(16) + records[5000][478:]}, disk_size=30000, extended=SPACE))
+    push(6000, 200, align=1)
+    remove(5)
+
+
 def seeded_cases():
     note("careful changes: seeded")
     rng = c.Seeded(909)
@@ -257,6 +407,6 @@ def seeded_cases():
 
 
 if __name__ == "__main__":
-    for section in (number_cases, place_cases, refusal_cases, removal_cases, seeded_cases):
+    for section in (number_cases, place_cases, refusal_cases, removal_cases, empty_first_cases, seeded_cases):
         section()
     print("\n".join(c.lines))

@@ -1,6 +1,6 @@
-"""Document 01 as a plain program, in exact integers.
+"""Document 01, changed as request 3 of document 02 asks, as a plain program in exact integers.
 
-Written from the document and the crate's source alone; it shares nothing with the proved
+Written from the documents and the crate's source alone; it shares nothing with the proved
 crates or their definitions. A refusal is the exception Refusal with document 01's number.
 Tables are values that never change, so a refusal leaves the given table as it was; lent
 output is a bytearray that is written only once nothing can be refused any more.
@@ -749,16 +749,30 @@ def all_chs(t: Table) -> List[CHS]:
     return found
 
 
+def is_empty_first(logicals: Tuple[Logical, ...], at: int) -> bool:
+    """Request 3: is the logical partition at this index the first one, and empty: type 0, relative start 0, no sectors?"""
+    l = logicals[at]
+    return at == 0 and not is_used(l.partition) and l.partition.starting_lba == l.absolute_ebr_lba and l.partition.sectors == 0
+
+
+def end_of(logicals: Tuple[Logical, ...], at: int) -> int:
+    """Where the logical partition at this index ends; the empty first one's EBR counts as its one sector."""
+    l = logicals[at]
+    return l.absolute_ebr_lba + 1 if is_empty_first(logicals, at) else l.partition.end
+
+
 def broken_rules(t: Table) -> List[str]:
     """The rules of a sound table that this one breaks, in document 01's order."""
     check_count(t)
     header, logicals = t.header, t.logicals
+    # those that have a size and a place
+    sized = [l for at, l in enumerate(logicals) if not is_empty_first(logicals, at)]
     primaries = [e for e in header.entries if is_used(e)]
     extended = header.extended()
     x = extended.starting_lba if extended else 0
     x_end = extended.end if extended else 0
     pairs = list(zip(logicals, logicals[1:]))
-    ends = [l.absolute_ebr_lba for l in logicals[1:]] + [x_end]
+    limits = [l.absolute_ebr_lba for l in logicals[1:]] + [x_end]
     rules = [
         ("signature", header.boot_signature == SIGNATURE),
         ("flag", all(e.boot in (BOOT_ACTIVE, BOOT_INACTIVE) for e in all_entries(header, logicals))),
@@ -770,11 +784,11 @@ def broken_rules(t: Table) -> List[str]:
                         for i, a in enumerate(primaries) for b in primaries[i + 1:])),
         ("one extended", sum(is_extended(e) for e in primaries) <= 1),
         ("no extended", extended is not None or not logicals),
-        ("logical used", all(is_used(l.partition) for l in logicals)),
+        ("logical used", all(is_used(l.partition) for l in sized)),
         ("logical extended", not any(is_extended(l.partition) for l in logicals)),
-        ("logical sectors", all(l.partition.sectors >= 1 for l in logicals)),
-        ("logical start", all(l.partition.starting_lba > l.absolute_ebr_lba for l in logicals)),
-        ("logical end", all(l.partition.end <= end for l, end in zip(logicals, ends))),
+        ("logical sectors", all(l.partition.sectors >= 1 for l in sized)),
+        ("logical start", all(l.partition.starting_lba > l.absolute_ebr_lba for l in sized)),
+        ("logical end", all(end_of(logicals, at) <= limits[at] for at in range(len(logicals)))),
         ("first ebr", not logicals or logicals[0].absolute_ebr_lba == x),
         ("ascend", all(a.absolute_ebr_lba < b.absolute_ebr_lba for a, b in pairs)),
         ("link sectors", all((l.ebr_sectors or 0) >= 1 for l in logicals[1:])),
@@ -841,7 +855,7 @@ def careful_push(x: bytes, align: int, geometry: Geometry, sys: int, start: int,
     new = after.logicals[-1]
     if not t.logicals and new.partition.end > extended.end:
         raise Refusal(12)
-    if t.logicals and new.absolute_ebr_lba < t.logicals[-1].partition.end:
+    if t.logicals and new.absolute_ebr_lba < end_of(t.logicals, len(t.logicals) - 1):
         raise Refusal(21)
     after = first_placed(after)
     last = len(after.logicals) - 1

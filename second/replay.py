@@ -58,14 +58,19 @@ def gap(rng):
 
 
 def chain_places(rng, start, n):
-    """EBR place, partition start and sectors of each of n logicals, and the least end."""
-    places, at = [], start
-    for _ in range(n):
-        first = at + 1 + gap(rng)
-        length = rng.choice((1, 2, rng.randrange(1, 30), rng.randrange(1, 5000)))
-        places.append((at, first, length))
-        at = first + length + gap(rng)
-    return places, places[-1][1] + places[-1][2] if places else start + 1
+    """EBR place, partition start and sectors of each of n logicals, and the least end. Often the first is empty: no sectors,
+    and the start is its EBR's place."""
+    places, at, least = [], start, start + 1
+    for k in range(n):
+        if k == 0 and rng.random() < 0.4:
+            places.append((at, at, 0))
+        else:
+            first = at + 1 + gap(rng)
+            length = rng.choice((1, 2, rng.randrange(1, 30), rng.randrange(1, 5000)))
+            places.append((at, first, length))
+            least = first + length
+        at = least + gap(rng)
+    return places, least
 
 
 def further(rng, record):
@@ -82,7 +87,7 @@ def chain_records(rng, start, end, places):
             covered = next_first + next_length - place
             link = entry(rng, rng.choice((0x05, rng.randrange(256))), place - start,
                          rng.choice((covered, covered, end - place)))
-        ebr = EBR(any_code(rng, 446), entry(rng, any_type(rng), first - at, length), link)
+        ebr = EBR(any_code(rng, 446), entry(rng, any_type(rng) if length else 0, first - at, length), link)
         records[at] = further(rng, m.ebr_bytes(ebr))
     return records
 
@@ -163,6 +168,11 @@ def any_push(rng, t):
     return align, geometry, sys, *within
 
 
+def empty_first(t):
+    """Is there an EBR at the extended partition's start that holds no partition?"""
+    return bool(t.logicals) and t.logicals[0].partition.sys == 0
+
+
 def up(n, align):
     return -(-n // align) * align
 
@@ -186,7 +196,8 @@ def push_holds(t, align, geometry, sys, start, sectors):
         return False
     place, first, end = new_place(align, start, sectors)
     fits = (extended.starting_lba <= place <= extended.end - 2 * align and end <= extended.end
-            and end - place >= 2 * align and all(place >= l.partition.end for l in t.logicals))
+            and end - place >= 2 * align and all(place >= l.partition.end for l in t.logicals)
+            and (place > extended.starting_lba or not t.logicals))
     if not fits or not 0 < geometry.cylinders <= 1023 or geometry.heads == 0 or geometry.sectors == 0:
         return fits
     if geometry.sectors > 63:
@@ -213,7 +224,7 @@ def contents_of(t):
 
 def data_partitions(t):
     primaries = [e for e in t.header.entries if m.is_used(e) and not m.is_extended(e)]
-    return primaries + [l.partition for l in t.logicals]
+    return primaries + [l.partition for l in t.logicals[empty_first(t):]]
 
 
 def decoded(out, n):
@@ -366,16 +377,22 @@ def numbers(rng, t):
 
 def run(disks, seed):
     rng = random.Random(seed)
-    pushes = removals = 0
+    pushes = removals = empty = behind = gone = 0
     for _ in range(disks):
         x = sound_disk(rng)
         t = m.read_table(x)
         hold("a generated disk is sound", not m.broken_rules(t))
+        empty += empty_first(t)
         for _ in range(3):
-            pushes += try_push(rng, x, t)
+            done = try_push(rng, x, t)
+            pushes += done
+            behind += done and empty_first(t)
         for number in numbers(rng, t):
-            removals += try_removal(rng, x, t, number)
-    return pushes, removals
+            done = try_removal(rng, x, t, number)
+            removals += done
+            gone += done and empty_first(t)
+    hold("a fifth of the disks have an empty first EBR", disks < 100 or empty >= disks // 5)
+    return pushes, removals, empty, behind, gone
 
 
 # ---------------------------------------------------------------- planted faults
@@ -441,6 +458,22 @@ def on_data(made, out):
     return made
 
 
+def over_empty(made, out):
+    """The second partition stored over an empty first EBR, as into an empty chain."""
+    if len(made.stores) == 2 and len(made.table.logicals) == 2 and empty_first(made.table):
+        altered(out, 0, out[m.STORE:m.STORE + 4])
+        altered(out, m.STORE, LENT * m.STORE)
+        made = made._replace(stores=made.stores[:1])
+    return made
+
+
+def first_filled(made, out):
+    """An empty first EBR given a type in the store of its link."""
+    if len(made.stores) == 2 and len(made.table.logicals) == 2 and empty_first(made.table):
+        out[m.STORE + 4 + 450] = 0x83
+    return made
+
+
 def byte_behind(made, out):
     """A lent byte behind the stores changed."""
     if len(out) > m.STORE * len(made.stores):
@@ -448,7 +481,8 @@ def byte_behind(made, out):
     return made
 
 
-FAULTS = (exchanged, repeated, one_dropped, other_type, partition_type, code_lost, one_sector_on, on_data, byte_behind)
+FAULTS = (exchanged, repeated, one_dropped, other_type, partition_type, code_lost, one_sector_on, on_data,
+          over_empty, first_filled, byte_behind)
 
 
 def noticed(fault, disks, seed):
@@ -469,14 +503,16 @@ def noticed(fault, disks, seed):
 if __name__ == "__main__":
     disks = int(sys.argv[1]) if len(sys.argv) > 1 else 3000
     for fault in FAULTS:
-        broken = noticed(fault, 60, 31)
+        # what few disks give occasion to is sought on more of them
+        broken = noticed(fault, 60, 31) or noticed(fault, 1000, 31)
         if not broken:
             sys.exit(f"replay: the planted fault {fault.__name__} was not noticed")
         if "-v" in sys.argv:
             print(fault.__name__, broken)
     try:
-        pushes, removals = run(disks, 30)
+        pushes, removals, empty, behind, gone = run(disks, 30)
     except Violation as v:
         sys.exit(f"replay: {v}: not so")
-    print(f"replay: demand 3 holds on {disks} sound disks, of {pushes} careful pushes and {removals} careful removals; "
-          f"{len(FAULTS)} planted faults noticed")
+    print(f"replay: demand 3 holds on {disks} sound disks, of {pushes} careful pushes and {removals} careful removals; {empty} "
+          f"of the disks have an empty first EBR, with {behind} of the pushes and {gone} of the removals; {len(FAULTS)} planted "
+          f"faults noticed")

@@ -1,4 +1,4 @@
-"""Holds model.py to the numbers of document 01 and to what the document says of any disk."""
+"""Holds model.py to the numbers of document 01, to small disks of request 3, and to what the documents say of any disk."""
 import random
 from dataclasses import replace
 
@@ -341,12 +341,112 @@ def soundness():
     refused(6, m.broken_rules, replace(t, logicals=(first,) * (m.LOGICALS + 1)))
 
 
+def first_empty():
+    """A first entry of type 0, relative start 0, no sectors."""
+    t = m.read_table(disk_k())
+    empty = replace(t.logicals[0], partition=part(0, 4096, 0))
+    second = replace(t.logicals[0], partition=part(0x83, 10240, 2048), absolute_ebr_lba=8192, ebr_sectors=4096,
+                     ebr_last_chs=m.NO_CHS)
+
+    def broken(rule, *logicals, **changes):
+        same((m.broken_rules(replace(t, logicals=logicals, **changes)) or ["none"])[0], rule)
+
+    def with_first(rule, boot=0, sys=0, start=4096, sectors=0, first=m.NO_CHS, last=m.NO_CHS, **changes):
+        alone = replace(empty, partition=Entry(boot, first, sys, last, start, sectors), **changes)
+        broken(rule, alone)
+        broken(rule, alone, second)
+
+    with_first("none")
+    with_first("none", boot=0x80)
+    with_first("flag", boot=1)
+    with_first("none", first=CHS(1023, 255, 63), last=CHS(1023, 255, 63))
+    with_first("chs", first=CHS(1024, 0, 0))
+    with_first("chs", last=CHS(0, 0, 64))
+    with_first("chs", ebr_first_chs=CHS(0, 0, 64))
+    with_first("chs", ebr_last_chs=CHS(1024, 0, 0))
+    with_first("logical used", start=4097)
+    with_first("logical used", start=4095)
+    with_first("logical used", start=0)
+    with_first("logical used", sectors=1)
+    with_first("logical used", start=6144, sectors=2048)
+    with_first("logical sectors", sys=0x83)
+    with_first("logical extended", sys=0x05)
+    with_first("first ebr", absolute_ebr_lba=4097, start=4097)
+    with_first("none", ebr_sectors=1)
+    broken("logical used", t.logicals[0], replace(second, partition=part(0, 8192, 0)))
+    broken("logical used", empty, replace(second, partition=part(0, 8192, 0)))
+    broken("logical used", empty, empty)
+    broken("none", empty, replace(second, absolute_ebr_lba=4097, ebr_sectors=8191))
+    broken("logical end", empty, replace(second, absolute_ebr_lba=4096, ebr_sectors=8192))
+    broken("link sectors", empty, replace(second, ebr_sectors=None))
+    broken("no extended", empty, header=header(part(0x83, 4096, 16384)))
+    # the end X + 1, last or not
+    broken("none", empty, header=header(part(5, 4096, 1)))
+    broken("none", empty, header=header(part(5, 4096, 1)), disk_size=4097)
+    broken("primary end", empty, header=header(part(5, 4096, 1)), disk_size=4096)
+    # an unused slot is none, also where a count takes it for the first one
+    broken("logical used", m.NO_LOGICAL, m.NO_LOGICAL)
+    broken("first ebr", m.NO_LOGICAL)
+    broken("logical used", t.logicals[0], m.NO_LOGICAL)
+    same([m.end_of((empty, second), at) for at in (0, 1)], [4097, 12288])
+
+    def small(disk_size, sectors, *ebrs):
+        """An extended partition from sector 1 on, and its EBRs."""
+        records = {0: m.header_bytes(header(part(5, 1, sectors)))}
+        for place, partition, link in ebrs:
+            records[place] = m.ebr_bytes(m.EBR(bytes(446), partition, link))
+        return extract(disk_size, records)
+
+    def push(x, start, sectors):
+        return m.careful_push(x, 1, Geometry(0, 0, 0), 0x83, start, sectors, bytearray(m.STORES))
+
+    def read_after(x, done):
+        return m.read_disk(after_stores(x, done.stores))
+
+    nothing = m.NO_ENTRY
+    for disk_size in (3, 5):
+        refused(21, push, small(disk_size, disk_size - 1, (1, nothing, nothing)), 1, 2)
+    x = small(5, 4, (1, nothing, nothing))
+    same(m.listing(x), "disk 5 align 1 logical 1\n1 05 00 1 4\n")
+    done = push(x, 2, 2)
+    new = m.ebr_bytes(m.EBR(bytes(446), part(0x83, 1, 1), nothing))
+    linked = m.ebr_bytes(m.EBR(bytes(446), nothing, part(5, 1, 2)))
+    same(done.stores, [(2, new), (1, linked)])
+    same([l.partition for l in read_after(x, done).logicals], [part(0, 1, 0), part(0x83, 3, 1)])
+    done = m.careful_removal(x, 5, bytearray(m.STORES))
+    same(done.stores, [(1, bytes(512))])
+    same(read_after(x, done).logicals, ())
+    refused(17, m.careful_removal, x, 6, bytearray(m.STORES))
+    x = small(4, 3, (1, nothing, part(5, 1, 2)), (2, part(0x83, 1, 1), nothing))
+    same(m.listing(x), "disk 4 align 1 logical 2\n1 05 00 1 3\n6 83 00 3 1\n")
+    done = m.careful_removal(x, 6, bytearray(m.STORES))
+    same(done.stores, [(1, m.ebr_bytes(m.EBR(bytes(446), nothing, nothing)))])
+    same(m.broken_rules(read_after(x, done)), [])
+    same(len(read_after(x, done).logicals), 1)
+    done = m.careful_removal(x, 5, bytearray(m.STORES))
+    same(done.stores, [(1, m.ebr_bytes(m.EBR(bytes(446), part(0x83, 2, 1), nothing)))])
+    same([l.partition for l in read_after(x, done).logicals], [part(0x83, 3, 1)])
+    # an area of one sector has room for an EBR and for nothing else
+    x = small(2, 1, (1, nothing, nothing))
+    same(m.broken_rules(m.read_table(x)), [])
+    refused(11, push, small(3, 2, (1, nothing, nothing)), 2, 2)
+    same(m.careful_removal(x, 5, bytearray(m.STORES)).stores, [(1, bytes(512))])
+    # written and read back
+    x = small(9, 8, (1, nothing, part(5, 2, 3)), (3, part(0x83, 1, 2), nothing))
+    out = bytearray(len(x))
+    same(m.write_table(m.read_table(x), x, out).length, len(x))
+    same(bytes(out), x)
+
+
 def any_disk(rng):
     """A small disk with a chain, often sound."""
     disk_size = rng.randrange(60, 140)
     start = rng.randrange(1, 20)
     sectors = rng.randrange(10, disk_size - start + 2)
     at, places = start, []
+    if rng.random() < 0.3:
+        places.append((start, start, 0))
+        at = start + 1 + rng.randrange(0, 4)
     while len(places) < rng.randrange(0, 5):
         first = at + rng.randrange(1, 4)
         length = rng.randrange(1, 12)
@@ -360,14 +460,14 @@ def any_disk(rng):
         if i + 1 < len(places):
             nxt = places[i + 1]
             link = part(5, nxt[0] - start, nxt[1] + nxt[2] - nxt[0])
-        records[place] = m.ebr_bytes(m.EBR(rng.randbytes(446), part(0x83, first - place, length), link))
+        records[place] = m.ebr_bytes(m.EBR(rng.randbytes(446), part(0x83 if length else 0, first - place, length), link))
     return extract(disk_size, records)
 
 
 def careful_disks():
     """Every prefix of the stores reads as the old table or as the new one."""
     rng = random.Random(20)
-    accepted = 0
+    accepted = behind_empty = 0
     for _ in range(6000):
         x = any_disk(rng)
         old = answer(m.read_table, x)
@@ -381,6 +481,7 @@ def careful_disks():
         if change[0] == "refused":
             continue
         accepted += 1
+        behind_empty += m.is_empty_first(old[1].logicals, 0) if old[1].logicals else 0
         after, stores = change[1]
         for k in range(len(stores) + 1):
             now = m.read_disk(after_stores(x, stores[:k]))
@@ -388,7 +489,7 @@ def careful_disks():
             # alignment and geometry are the request's, not the disk's
             same(now, replace(want, align=now.align, cylinders=0, heads=0, sectors=0))
             same(m.broken_rules(now), [])
-    same(accepted > 1000, True)
+    same(accepted > 1000 and behind_empty > 300, True)
 
 
 def written_disks():
@@ -409,6 +510,6 @@ def written_disks():
 
 
 for group in (chs_numbers, alignment_numbers, free_numbers, disk_k_numbers, extract_rules, chain_rules, pushes,
-              lookups, writing, soundness, careful_disks, written_disks):
+              lookups, writing, soundness, first_empty, careful_disks, written_disks):
     group()
 print(f"selftest: {count} checks hold")

@@ -8,7 +8,7 @@ use native.Mathlib.Nat.{suc-add}
 use native.Mathlib.Omega.{arith}
 use lib.Dec.{ltb, leb}
 use lib.ListN.{length, length-append}
-use borrow.Author.Tests.{ltb-true, leb-true, lt-ltb, not-true}
+use borrow.Author.Tests.{ltb-true, leb-true, lt-ltb, ne-eqb, not-true}
 use Rattle.base.specs.Checks.{Check, _!_, AllHold}
 use Rattle.base.specs.Said.{gives}
 use Rattle.base.proofs.Checks.{hold-left, hold-right}
@@ -24,6 +24,7 @@ use Rattle.table_push.specs.Push.{placeOf, sizeOf, laterThan, newLogical, round
 use Rattle.sound.specs.Sound.{Contents, extendedEntry, areaEnd, end, Sound, soundb}
 use Rattle.sound.proofs.Test.{is-sound}
 use Rattle.chain.specs.Links.{write}
+use Rattle.careful_stores.specs.Space.{endBehind}
 use Rattle.careful.specs.Stores.{moved, firstInPlace, leftOut, lastLogical, lastListed, pushStores, skipStore, removeStore}
 use Rattle.careful.specs.Careful.{relist, roomNeeded, askChecks, spaceChecks, pushRefusals, pushChange, removeRefusals, removeChange}
 use Rattle.careful.specs.Demand3.{Whole, contentsOn, Safe}
@@ -31,7 +32,7 @@ use Rattle.careful.proofs.Shown.{Shows, contents→shows, Heads, holds-
 use Rattle.careful.proofs.Split.{split}
 use Rattle.careful.proofs.Push.{Room, push-safe}
 use Rattle.careful.proofs.Remove.{remove-safe, remove-first-safe, remove-only-safe, push-first-safe}
-use Rattle.careful.proofs.New.{Asked, NewOk, Fits, new-ok, new-good, new-writable, new-span, new-linkable}
+use Rattle.careful.proofs.New.{Asked, NewOk, Fits, new-ok, new-zone, new-good, new-writable, new-span, new-linkable}
 
 -- all but the last
 unfoldable initOf : LogicalPartition → List LogicalPartition → List LogicalPartition
@@ -97,7 +98,7 @@ module _ (q : Request) (e : MBRPartitionEntry) (n : ℕ) (h : AllHold (pushCheck
   pub geometry-hold : AllHold (geometryChecks (laterThan n) q)
   geometry-hold = hold-right upToEnd (geometryChecks (laterThan n) q) chs-hold
 
-  align-hold : 0 < q .align
+  pub align-hold : 0 < q .align
   unfolding roundChecks
   align-hold = ltb-true 0 (q .align) (hold-left first (placeChecks q e) place-hold .1 .1 .0)
 
@@ -133,7 +134,7 @@ module _ (d : Disk) (t : Contents) (whole : Whole d) (small : t .size < 2 ^ 32) 
     into-empty e x z h high =
         let f : Fits q e = fits-of q e 0 h a high in
         let o : NewOk false q (newLogical false q) = new-ok false q asked (geometry-hold q e 0 h) in
-        push-first-safe d t e (newLogical false q) small now r s x z (omega (arith, o .place, f .low)) (new-good false q e (newLogical false q) asked f o)
+        push-first-safe d t e (newLogical false q) small now r s x z (omega (arith, o .place, f .low)) (new-zone false q e (newLogical false q) asked f o) (new-good false q e (newLogical false q) asked f o)
         (new-writable false q e (newLogical false q) asked f o)
 
     into-chain : (e : MBRPartitionEntry) (l : LogicalPartition) (ls : List LogicalPartition) → extendedEntry t ≡ some e → t .logicals ≡ l ∷ ls
@@ -161,11 +162,11 @@ module _ (d : Disk) (t : Contents) (whole : Whole d) (small : t .size < 2 ^ 32) 
         (subst (λ (ns : List LogicalPartition). Safe d t (record { stores = write e new none ∷ write e (lastLogical l ls) (some new) ∷ []; result = relist t ns })) same safe)
 
     into : (o : Option MBRPartitionEntry) → extendedEntry t ≡ o → (ls : List LogicalPartition) → t .logicals ≡ ls → AllHold (pushChecks q o (length ls))
-        → leb (placeOf q + sizeOf q) (areaEnd o) ≡ true → leb (end (lastListed ls)) (placeOf q) ≡ true → Pushed (Option·getD o noEntry) ls
+        → leb (placeOf q + sizeOf q) (areaEnd o) ≡ true → leb (endBehind (length ls) (lastListed ls)) (placeOf q) ≡ true → Pushed (Option·getD o noEntry) ls
     unfolding areaEnd lastListed pushChecks
     into none x ls z h c b = let w : _≡_ {A = ℕ} 0 1 = cc (h .0) in absurd (omega arith)
     into (some e) x [] z h c b = into-empty e x z h (leb-true (placeOf q + sizeOf q) (endOf e) c)
-    into (some e) x (l ∷ ls) z h c b = into-chain e l ls x z h (leb-true (placeOf q + sizeOf q) (endOf e) c) (leb-true (end (lastLogical l ls)) (placeOf q) b)
+    into (some e) x (l ∷ ls) z h c b = into-chain e l ls x z h (leb-true (placeOf q + sizeOf q) (endOf e) c) (leb-true (end (lastLogical l ls)) (placeOf q) (rw (ne-eqb (length (l ∷ ls)) 0 (λ z. omega arith)) at b))
 
   -- removal
   Removed : MBRPartitionEntry → List LogicalPartition → Store → List LogicalPartition → Type 0

@@ -28,7 +28,7 @@ use Rattle.table_address.specs.Address.{complete, addressIn, addressChecks, las
 use Rattle.table_push.specs.declared.request.Request.{Request}
 use Rattle.table_push.specs.Push.{placeOf, sizeOf, fresh, newLogical, geometryChecks}
 use Rattle.sound.specs.Sound.{end, Within, IfThere}
-use Rattle.sound.proofs.Good.{Good, Span}
+use Rattle.sound.proofs.Good.{Zone, Good, Span, zone-end}
 use Rattle.careful.proofs.Push.{Writable, Linkable}
 
 -- type and heads are bytes, as they are in every call
@@ -152,19 +152,24 @@ not-plain : (k : ℕ) → extended k ≡ false → extended k ≡ true → ⊥
 not-plain k p q = let w : _≡_ {A = Bool} true false = cc in let z : _≡_ {A = ℕ} 0 1 = cc in omega arith
 
 module _ (later : Bool) (q : Request) (e : MBRPartitionEntry) (l : LogicalPartition) (asked : Asked q) (f : Fits q e) (o : NewOk later q l) where
+  pub new-zone : Zone l
+  new-zone = record {
+    used = ap used (o .sys) ∙ f .used;
+    after = omega (arith, o .place, o .start, f .align);
+    size = omega (arith, o .sectors, f .size, f .align);
+  }
+
   end-new : end l ≡ placeOf q + sizeOf q
-  unfolding end
-  end-new = omega (arith, o .start, o .sectors, f .size, f .align)
+  end-new = omega (arith, zone-end l new-zone, o .start, o .sectors, f .size, f .align)
 
   pub new-good : Good (endOf e) l none
   new-good = record {
     own = record {
       flag = inl (o .boot);
       chs = ((within (l .partition .«first_chs») (o .first), within (l .partition .«last_chs») (o .last)), (within (l .«ebr_first_chs») (o .link), if-there later (l .«ebr_last_chs») (o .tail)));
-      used = ap used (o .sys) ∙ f .used;
       plain = λ x. not-plain (q .sys) (f .plain) (ap extended (sym (o .sys)) ∙ x);
     };
-    place = record { after = omega (arith, o .place, o .start, f .align); size = omega (arith, o .sectors, f .size, f .align) };
+    place = inl new-zone;
     ends = omega (arith, end-new, f .high);
     linked = tt;
   }
@@ -176,6 +181,7 @@ module _ (later : Bool) (q : Request) (e : MBRPartitionEntry) (l : LogicalPartit
 module _ (q : Request) (e : MBRPartitionEntry) (l : LogicalPartition) (asked : Asked q) (f : Fits q e) (o : NewOk true q l) where
   pub new-span : Span (endOf e) l
   new-span = record {
+    zone = new-zone true q e l asked f o;
     span = sizeOf q;
     sectors = o .span;
     size = omega (arith, f .size, f .align);

@@ -1,5 +1,5 @@
 -- Where logical partitions lie: each after its EBR, and before the next EBR or the end of the extended partition. Assumes nothing.
-use mathlib.Core.Logic.{_≢_}
+use mathlib.Core.Logic.{_≢_, inl, inr}
 use mathlib.Core.Option.{Option, none, some}
 use mathlib.Core.List.{List, [], _∷_, _++_}
 use Prim.Native.Nat.{ℕ, suc, _≤_, _<_}
@@ -10,8 +10,8 @@ use Rattle.base.specs.All.{All}
 use Rattle.record_entry.specs.Entry.{endOf}
 use Rattle.table.specs.declared.LogicalPartition.{LogicalPartition}
 use Rattle.chain.specs.Facts.{at, start, Before}
-use Rattle.sound.specs.Sound.{end, bound}
-use Rattle.sound.proofs.Good.{Good}
+use Rattle.sound.specs.Sound.{Vacant, end, bound}
+use Rattle.sound.proofs.Good.{Place, Good, vacant-of, zone-end, vacant-end, place-above}
 use Rattle.careful.specs.Demand3.{In}
 
 -- what the proofs above know of a place: an EBR, then its partition's own sectors, then the end, and that by the next EBR
@@ -22,15 +22,26 @@ pub record Fit (hi : ℕ) (l : LogicalPartition) (n : Option LogicalPartition) :
   pub cover : endOf (l .partition) ≤ end l
   pub inner : (a : ℕ) → In a (l .partition) → at l < a
 
-pub good-fit : (hi : ℕ) (l : LogicalPartition) (n : Option LogicalPartition) → Good hi l n → Fit hi l n
-unfolding end
-good-fit hi l n g = record {
-  above = omega (arith, g .place .after, g .place .size);
-  ends = g .ends;
-  start = omega (arith, g .place .after);
-  cover = omega arith;
-  inner = λ a h. omega (arith, h .low, g .place .after);
+place-fit : (hi : ℕ) (l : LogicalPartition) (n : Option LogicalPartition) → Place l → end l ≤ bound hi n → Fit hi l n
+place-fit hi l n (inl z) h = record {
+  above = place-above l (inl z);
+  ends = h;
+  start = omega (arith, z .after);
+  cover = omega (arith, zone-end l z);
+  inner = λ a i. omega (arith, i .low, z .after);
 }
+place-fit hi l n (inr v) h =
+    let k : Vacant l = vacant-of l v in
+    record {
+      above = place-above l (inr v);
+      ends = h;
+      start = omega (arith, k .place);
+      cover = omega (arith, vacant-end l v, k .place, k .sectors);
+      inner = λ a i. omega (arith, i .low, i .high, k .sectors);
+    }
+
+pub good-fit : (hi : ℕ) (l : LogicalPartition) (n : Option LogicalPartition) → Good hi l n → Fit hi l n
+good-fit hi l n g = place-fit hi l n (g .place) (g .ends)
 
 pub fit-of : (hi : ℕ) (ls : List LogicalPartition) (n : Option LogicalPartition) → Row (Good hi) ls n → Row (Fit hi) ls n
 fit-of hi = row-map (Good hi) (Fit hi) (λ l n g. good-fit hi l n g)

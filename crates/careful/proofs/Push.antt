@@ -44,19 +44,21 @@ flag-small e (inl h) = omega arith
 flag-small e (inr h) = omega arith
 
 pub body-ok : (hi : ℕ) (l : LogicalPartition) (n : Option LogicalPartition) → Good hi l n → Writable l → end l < 2 ^ 32 → BodyOk (bodyOf l)
-unfolding bodyOf end
-body-ok hi l n g w h = record {
-  kept = w .kept;
-  flag = is-flag (l .partition) .from (g .own .flag);
-  part = record {
-    boot = flag-small (l .partition) (g .own .flag);
-    first = w .first;
-    sys = w .sys;
-    last = w .last;
-    start = omega arith;
-    sectors = omega arith;
-  };
-}
+unfolding bodyOf
+body-ok hi l n g w h =
+    let c : endOf (l .partition) ≤ end l = good-fit hi l n g .cover in
+    record {
+      kept = w .kept;
+      flag = is-flag (l .partition) .from (g .own .flag);
+      part = record {
+        boot = flag-small (l .partition) (g .own .flag);
+        first = w .first;
+        sys = w .sys;
+        last = w .last;
+        start = omega arith;
+        sectors = omega arith;
+      };
+    }
 
 -- and a link to it
 pub record Linkable (l : LogicalPartition) : Type 0 where

@@ -1,5 +1,7 @@
 -- Careful removal behind an EBR of the chain, and every change that is one store at the start of the extended partition. Assumes nothing.
-use mathlib.Core.Path.{_≡_, refl, sym, subst}
+use mathlib.Core.Path.{_≡_, refl, sym, subst, _∙_}
+use mathlib.Core.Logic.{inl, inr}
+use mathlib.Core.Bool.{true}
 use mathlib.Core.Option.{Option, none, some}
 use mathlib.Core.List.{List, [], _∷_, _++_}
 use Prim.Native.Nat.{ℕ, _^_, _≤_, _<_}
@@ -19,8 +21,8 @@ use Rattle.extract.proofs.Disk.{sector-other, size-stored, width-stored, record
 use Rattle.table.specs.declared.LogicalPartition.{LogicalPartition}
 use Rattle.table.specs.Table.{most}
 use Rattle.chain.specs.Facts.{bad, viewed, seen, at, start, linkIn, bodyOf, leads, Held}
-use Rattle.sound.specs.Sound.{Contents, extendedEntry, end, Sound}
-use Rattle.sound.proofs.Good.{Good, Area, area-of, extended-small}
+use Rattle.sound.specs.Sound.{Contents, extendedEntry, vacantb, end, Sound}
+use Rattle.sound.proofs.Good.{Zone, Place, Good, zone-end, vacant-end, Area, area-of, extended-small}
 use Rattle.chain.specs.Links.{write}
 use Rattle.careful.specs.Stores.{wipe, moved}
 use Rattle.careful.specs.Careful.{relist}
@@ -150,12 +152,30 @@ pub moved-heads : (e : MBRPartitionEntry) (l : LogicalPartition) (ls : List Logi
 unfolding moved linkIn
 moved-heads e l ls = (refl, refl)
 
-pub moved-good : (e : MBRPartitionEntry) (D : ℕ) (m : LogicalPartition) (n : Option LogicalPartition) → Area D e → e .«starting_lba» ≤ at m → Good (endOf e) m n → Good (endOf e) (moved e m) n
-unfolding moved end
-moved-good e D m n a h g = record {
-  own = record { flag = g .own .flag; chs = (g .own .chs .0, (a .chs .0, tt)); used = g .own .used; plain = g .own .plain };
-  place = record { after = omega (arith, g .place .after); size = g .place .size };
-  ends = g .ends;
+-- what is moved to X keeps its kind and its end: a zone, or what is there already
+pub record Stays (e : MBRPartitionEntry) (m : LogicalPartition) : Type 0 where
+  pub place : Place (moved e m)
+  pub ends : end (moved e m) ≡ end m
+
+pub zone-stays : (e : MBRPartitionEntry) (m : LogicalPartition) → e .«starting_lba» ≤ at m → Zone m → Stays e m
+unfolding moved
+zone-stays e m h z =
+    let w : Zone (moved e m) = record { used = z .used; after = omega (arith, z .after); size = z .size } in
+    record { place = inl w; ends = zone-end (moved e m) w ∙ sym (zone-end m z) }
+
+pub first-stays : (e : MBRPartitionEntry) (m : LogicalPartition) → at m ≡ e .«starting_lba» → Place m → Stays e m
+unfolding moved vacantb
+first-stays e m h (inl z) = zone-stays e m (omega arith) z
+first-stays e m h (inr v) =
+    let w : vacantb (moved e m) ≡ true = rw (← h) v in
+    record { place = inr w; ends = omega (arith, vacant-end (moved e m) w, vacant-end m v) }
+
+pub moved-good : (e : MBRPartitionEntry) (D : ℕ) (m : LogicalPartition) (n : Option LogicalPartition) → Area D e → Stays e m → Good (endOf e) m n → Good (endOf e) (moved e m) n
+unfolding moved
+moved-good e D m n a s g = record {
+  own = record { flag = g .own .flag; chs = (g .own .chs .0, (a .chs .0, tt)); plain = g .own .plain };
+  place = s .place;
+  ends = omega (arith, s .ends, g .ends);
   linked = g .linked;
 }
 
@@ -167,27 +187,24 @@ writable-of : (m : LogicalPartition) → BodyOk (bodyOf m) → Writable m
 unfolding bodyOf
 writable-of m b = record { kept = b .kept; sys = b .part .sys; first = b .part .first; last = b .part .last }
 
-moved-end : (e : MBRPartitionEntry) (m : LogicalPartition) → end (moved e m) ≡ end m
-unfolding moved end
-moved-end e m = refl
-
 -- the first removed: X now describes the second
 pub remove-first-safe : (d : Disk) (t : Contents) (e : MBRPartitionEntry) (y m : LogicalPartition) (ms : List LogicalPartition) → t .size < 2 ^ 32 → contentsOn d ≡ gives t → Shows d t → Sound t
     → extendedEntry t ≡ some e → t .logicals ≡ y ∷ m ∷ ms → Split d e (t .size) [] y (m ∷ ms) → Split d e (t .size) (y ∷ []) m ms
     → Safe d t (record { stores = write e (moved e m) (next ms none) ∷ []; result = relist t (moved e m ∷ ms) })
 remove-first-safe d t e y m ms small now r s x q c c′ =
-    let g : Good (endOf e) (moved e m) (next ms none) = moved-good e (t .size) m (next ms none) (c .area) (c′ .low) (c′ .good) in
+    let z : Stays e m = zone-stays e m (c′ .low) (c .good .linked .zone) in
+    let g : Good (endOf e) (moved e m) (next ms none) = moved-good e (t .size) m (next ms none) (c .area) z (c′ .good) in
     let apart : All (λ z. ¬ (In (e .«starting_lba») (z .partition))) (y ∷ m ∷ []) =
     ((λ h. omega (arith, c .fit .inner (e .«starting_lba») h, c .low)), ((λ h. omega (arith, c′ .fit .inner (e .«starting_lba») h, c′ .low)), tt)) in
     head-safe d t e (y ∷ m ∷ []) (moved e m) ms small now r s x q (moved-heads e m ms) (g, c′ .rest) (c′ .tail) (omega (arith, c .few))
-    (body-ok (endOf e) (moved e m) (next ms none) g (moved-writable e m (writable-of m (c′ .body))) (omega (arith, moved-end e m, c′ .high, c′ .area .ends))) (c′ .leadsOk) apart
+    (body-ok (endOf e) (moved e m) (next ms none) g (moved-writable e m (writable-of m (c′ .body))) (omega (arith, z .ends, c′ .high, c′ .area .ends))) (c′ .leadsOk) apart
 
 -- the first one pushed: into an empty chain
 pub push-first-safe : (d : Disk) (t : Contents) (e : MBRPartitionEntry) (n : LogicalPartition) → t .size < 2 ^ 32 → contentsOn d ≡ gives t → Shows d t → Sound t → extendedEntry t ≡ some e
-    → t .logicals ≡ [] → e .«starting_lba» ≤ at n → Good (endOf e) n none → Writable n → Safe d t (record { stores = write e (moved e n) none ∷ []; result = relist t (moved e n ∷ []) })
-push-first-safe d t e n small now r s x q h k w =
+    → t .logicals ≡ [] → e .«starting_lba» ≤ at n → Zone n → Good (endOf e) n none → Writable n → Safe d t (record { stores = write e (moved e n) none ∷ []; result = relist t (moved e n ∷ []) })
+push-first-safe d t e n small now r s x q h z k w =
     let a : Area (t .size) e = area-of t e s x in
-    let g : Good (endOf e) (moved e n) none = moved-good e (t .size) n none a h k in
+    let g : Good (endOf e) (moved e n) none = moved-good e (t .size) n none a (zone-stays e n h z) k in
     head-safe d t e [] (moved e n) [] small now r s x q (moved-heads e n []) (g, tt) tt (omega arith)
     (body-ok (endOf e) (moved e n) none g (moved-writable e n w) (omega (arith, g .ends, a .ends))) tt tt
 

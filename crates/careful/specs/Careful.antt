@@ -16,7 +16,8 @@ use Rattle.read_table.specs.Read.{Table, read, readSays}
 use Rattle.table_address.specs.declared.Geometry.{Geometry}
 use Rattle.table_push.specs.declared.request.Request.{Request}
 use Rattle.table_push.specs.Push.{placeOf, sizeOf, laterThan, newLogical, pushChecks, pushed}
-use Rattle.sound.specs.Sound.{Contents, extendedEntry, areaEnd, end, soundb}
+use Rattle.sound.specs.Sound.{Contents, extendedEntry, areaEnd, soundb}
+use Rattle.careful_stores.specs.Space.{endBehind}
 pub use Rattle.careful_stores.specs.Stored.{roomNeeded}
 use Rattle.careful.specs.Stores.{firstInPlace, leftOut, lastListed, pushStores, removeStore}
 
@@ -51,7 +52,7 @@ askable q = checked (askChecks q) (λ _. false) true
 
 -- rules K10, K11: ends by the extended end, for a first one too, 12; starts at or after the last partition's end, 21 (rule K7)
 unfoldable pub spaceChecks : Request → Contents → List Check
-spaceChecks q t = (12 ! leb (placeOf q + sizeOf q) (areaEnd (extendedEntry t))) ∷ (21 ! leb (end (lastListed (t .logicals))) (placeOf q)) ∷ []
+spaceChecks q t = (12 ! leb (placeOf q + sizeOf q) (areaEnd (extendedEntry t))) ∷ (21 ! leb (endBehind (length (t .logicals)) (lastListed (t .logicals))) (placeOf q)) ∷ []
 
 -- rules K2 to K15: the refusals of a careful push, after reading's, 20, 23, all of push, 12, 21, 19
 unfoldable pub pushRefusals : ℕ → Request → Contents → List Check

@@ -21,7 +21,7 @@ unfoldable pub lastLogical : LogicalPartition → List LogicalPartition → Logi
 lastLogical l [] = l
 lastLogical l (m ∷ ms) = lastLogical m ms
 
--- the last one; an empty slot, which ends at 0, if there is none
+-- the last one; an unused slot if there is none
 unfoldable pub lastListed : List LogicalPartition → LogicalPartition
 lastListed [] = emptySlot
 lastListed (l ∷ ls) = lastLogical l ls

@@ -3,7 +3,7 @@ use mathlib.Core.Path.{_≡_, refl, ap, sym, subst, _∙_}
 use mathlib.Core.Bool.{Bool, true, false, not}
 use mathlib.Core.Option.{Option, none, some}
 use mathlib.Core.List.{List, [], _∷_, _++_}
-use Prim.Native.Nat.{ℕ, _+_, _*_, _≤_}
+use Prim.Native.Nat.{ℕ, _+_, _*_, _≤_, _<_}
 use native.Mathlib.Omega.{arith}
 use lib.Dec.{leb}
 use lib.ListN.{length}
@@ -26,10 +26,11 @@ use Rattle.sound.specs.Sound.{Contents, contentsOf, extendedEntry, areaEnd, end
 use Rattle.careful.specs.Careful.{roomNeeded, tooWide, askChecks, askable, spaceChecks, pushRefusals, pushChange, carefulPushSays}
 use Rattle.careful.specs.Output.{outAfter, storesCounted}
 use Rattle.careful.proofs.Changing.{read-refused, read-told}
-use Rattle.careful.proofs.Accepted.{place-hold}
+use Rattle.careful.proofs.Accepted.{place-hold, align-hold}
+use Rattle.sound.proofs.Good.{sized-end}
 use Rattle.careful_stores.specs.declared.push_writer.Changed.{Changed}
 use Rattle.careful_stores.specs.Behind.{changedSaid, Tells, storesBehind}
-use Rattle.careful_stores.specs.Space.{spaceBehind}
+use Rattle.careful_stores.specs.Space.{endBehind, spaceBehind}
 use Rattle.careful_push.specs.Change.{checksBehind}
 use Rattle.careful_push.proofs.Lists.{stores-behind}
 use Rattle.careful_stores.proofs.push_writer.Laws.{tells-same}
@@ -59,43 +60,47 @@ module _ (later : Bool) (q : Request) where
       go true = refl
       go false = refl
 
-  new-end : q .align ≤ sizeOf q → end (newLogical later q) ≡ placeOf q + sizeOf q
-  unfolding newLogical addressed fresh end
-  new-end h = go (complete (q .geometry))
+  new-end : q .align < sizeOf q → end (newLogical later q) ≡ placeOf q + sizeOf q
+  unfolding newLogical addressed fresh
+  new-end h = sized-end (newLogical later q) (sized (complete (q .geometry))) ∙ ends (complete (q .geometry))
     where
-      go : (b : Bool) → end (pick b (addressed (q .geometry) (fresh later q)) (fresh later q)) ≡ placeOf q + sizeOf q
-      go true = omega arith
-      go false = omega arith
+      sized : (b : Bool) → 1 ≤ pick b (addressed (q .geometry) (fresh later q)) (fresh later q) .partition .sectors
+      sized true = omega arith
+      sized false = omega arith
 
-size : (q : Request) (e : MBRPartitionEntry) → AllHold (placeChecks q e) → q .align ≤ sizeOf q
+      ends : (b : Bool) → endOf (pick b (addressed (q .geometry) (fresh later q)) (fresh later q) .partition) ≡ placeOf q + sizeOf q
+      ends true = omega arith
+      ends false = omega arith
+
+size : (q : Request) (e : MBRPartitionEntry) (n : ℕ) → AllHold (pushChecks q (some e) n) → q .align < sizeOf q
 unfolding placeChecks
-size q e p =
+size q e n a =
+    let p : AllHold (placeChecks q e) = hold-right ((8 ! true) ∷ roundChecks q) (placeChecks q e) (place-hold q e n a) in
     let b : 2 * q .align ≤ sizeOf q = leb-true (2 * q .align) (sizeOf q) (p .1 .0) in
-    omega arith
+    omega (arith, align-hold q e n a)
 
 -- push's refusals come before them
 module _ (room : ℕ) (q : Request) (e : MBRPartitionEntry) (n : ℕ) (last : LogicalPartition) where
   pub behind-fails : (k : ℕ) → first-fail (pushChecks q (some e) n) ≡ some k → first-fail (checksBehind room q e n last) ≡ some k
   behind-fails k h =
-      append-fails (pushChecks q (some e) n) ((12 ! leb (placeOf q + sizeOf q) (endOf e)) ∷ (21 ! leb (end last) (placeOf q)) ∷ (19 ! leb roomNeeded room) ∷ []) k some none h
+      append-fails (pushChecks q (some e) n) ((12 ! leb (placeOf q + sizeOf q) (endOf e)) ∷ (21 ! leb (endBehind n last) (placeOf q)) ∷ (19 ! leb roomNeeded room) ∷ []) k some none h
 
   pub behind-holds : (new : LogicalPartition) → first-fail (pushChecks q (some e) n) ≡ none → new ≡ newLogical (laterThan n) q
-      → first-fail (checksBehind room q e n last) ≡ first-fail (spaceBehind e last new room)
+      → first-fail (checksBehind room q e n last) ≡ first-fail (spaceBehind e n last new room)
   behind-holds new h m =
       let a : AllHold (pushChecks q (some e) n) = none-fails (pushChecks q (some e) n) h in
-      let p : AllHold (placeChecks q e) = hold-right ((8 ! true) ∷ roundChecks q) (placeChecks q e) (place-hold q e n a) in
-      let s : q .align ≤ sizeOf q = size q e p in
-      append-holds (pushChecks q (some e) n) ((12 ! leb (placeOf q + sizeOf q) (endOf e)) ∷ (21 ! leb (end last) (placeOf q)) ∷ (19 ! leb roomNeeded room) ∷ []) some none a
-      ∙ ap (λ (i : ℕ). first-fail ((12 ! leb i (endOf e)) ∷ (21 ! leb (end last) (placeOf q)) ∷ (19 ! leb roomNeeded room) ∷ [])) (sym (new-end (laterThan n) q s))
-      ∙ ap (λ (i : ℕ). first-fail ((12 ! leb (end (newLogical (laterThan n) q)) (endOf e)) ∷ (21 ! leb (end last) i) ∷ (19 ! leb roomNeeded room) ∷ [])) (sym (new-at (laterThan n) q))
-      ∙ ap (λ (l : LogicalPartition). first-fail (spaceBehind e last l room)) (sym m)
+      let s : q .align < sizeOf q = size q e n a in
+      append-holds (pushChecks q (some e) n) ((12 ! leb (placeOf q + sizeOf q) (endOf e)) ∷ (21 ! leb (endBehind n last) (placeOf q)) ∷ (19 ! leb roomNeeded room) ∷ []) some none a
+      ∙ ap (λ (i : ℕ). first-fail ((12 ! leb i (endOf e)) ∷ (21 ! leb (endBehind n last) (placeOf q)) ∷ (19 ! leb roomNeeded room) ∷ [])) (sym (new-end (laterThan n) q s))
+      ∙ ap (λ (i : ℕ). first-fail ((12 ! leb (end (newLogical (laterThan n) q)) (endOf e)) ∷ (21 ! leb (endBehind n last) i) ∷ (19 ! leb roomNeeded room) ∷ [])) (sym (new-at (laterThan n) q))
+      ∙ ap (λ (l : LogicalPartition). first-fail (spaceBehind e n last l room)) (sym m)
 
 eight : (q : Request) (o : Option MBRPartitionEntry) (n : ℕ) → o ≡ none → first-fail (pushChecks q o n) ≡ some 8
 unfolding pushChecks
 eight q o n x = rw x
 
 space-at : (q : Request) (t : Contents) (e : MBRPartitionEntry) → extendedEntry t ≡ some e
-    → spaceChecks q t ≡ (12 ! leb (placeOf q + sizeOf q) (endOf e)) ∷ (21 ! leb (end (lastListed (t .logicals))) (placeOf q)) ∷ []
+    → spaceChecks q t ≡ (12 ! leb (placeOf q + sizeOf q) (endOf e)) ∷ (21 ! leb (endBehind (length (t .logicals)) (lastListed (t .logicals))) (placeOf q)) ∷ []
 unfolding spaceChecks areaEnd
 space-at q t e x = rw x
 
@@ -150,8 +155,8 @@ module _ (room : ℕ) (q : Request) (t : Contents) where
     push-behind : (e : MBRPartitionEntry) (n : ℕ) → extendedEntry t ≡ some e → length (t .logicals) ≡ n
         → first-fail (pushRefusals room q t) ≡ first-fail (checksBehind room q e n (lastListed (t .logicals)))
     push-behind e n x l =
-        push-asked ∙ rw (x, l, space-at q t e x)
-        (sym (checked-append (pushChecks q (some e) n) ((12 ! leb (placeOf q + sizeOf q) (endOf e)) ∷ (21 ! leb (end (lastListed (t .logicals))) (placeOf q)) ∷ room-check) some none))
+        push-asked ∙ rw (x, space-at q t e x, l)
+        (sym (checked-append (pushChecks q (some e) n) ((12 ! leb (placeOf q + sizeOf q) (endOf e)) ∷ (21 ! leb (endBehind n (lastListed (t .logicals))) (placeOf q)) ∷ room-check) some none))
 
   push-stores : (e : MBRPartitionEntry) (n : ℕ) → extendedEntry t ≡ some e → length (t .logicals) ≡ n
       → pushChange q t .stores ≡ storesBehind e n (lastListed (t .logicals)) (newLogical (laterThan n) q)

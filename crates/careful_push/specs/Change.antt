@@ -9,11 +9,11 @@ use Rattle.record_entry.specs.Entry.{endOf}
 use Rattle.table.specs.declared.LogicalPartition.{LogicalPartition}
 use Rattle.table_push.specs.declared.request.Request.{Request}
 use Rattle.table_push.specs.Push.{placeOf, sizeOf, pushChecks}
-use Rattle.sound.specs.Sound.{end}
+use Rattle.careful_stores.specs.Space.{endBehind}
 use Rattle.careful.specs.Careful.{roomNeeded}
 pub use Rattle.careful_stores.specs.Behind.{changedSaid, Tells}
 
 -- all refusals of a push behind n others, from push's on
 abbrev pub checksBehind : ℕ → Request → MBRPartitionEntry → ℕ → LogicalPartition → List Check
 checksBehind room q e n last =
-    pushChecks q (some e) n ++ (12 ! leb (placeOf q + sizeOf q) (endOf e)) ∷ (21 ! leb (end last) (placeOf q)) ∷ (19 ! leb roomNeeded room) ∷ []
+    pushChecks q (some e) n ++ (12 ! leb (placeOf q + sizeOf q) (endOf e)) ∷ (21 ! leb (endBehind n last) (placeOf q)) ∷ (19 ! leb roomNeeded room) ∷ []

@@ -5,17 +5,20 @@ use record_entry::MBRPartitionEntry;
 use table::LogicalPartition;
 ghost use mathlib.Core.Path.{_≡_};
 ghost use lib.ListN.{length};
-ghost use Rattle.record_entry.specs.Entry.{endOf};
 ghost use Rattle.careful_stores.specs.Behind.{Tells, storesBehind};
-ghost use Rattle.careful_stores.specs.Space.{spaceBehind};
+ghost use Rattle.careful_stores.specs.Space.{endBehind, spaceBehind};
 
 // The bytes that two stores take.
 pub const STORES: usize = 2 * crate::STORE;
 
-fn end_of(e: MBRPartitionEntry) -> u64
-    ensures { λ r. ⌜ r ≡ endOf e ⌝ }
+// Where the last of n ends; 0 if there is none: an unused slot is no EBR without a partition.
+fn end_behind(n: usize, last: LogicalPartition) -> u64
+    ensures { λ r. ⌜ r ≡ endBehind n last ⌝ }
 {
-    e.starting_lba as u64 + e.sectors as u64
+    if n == 0 {
+        return 0;
+    }
+    sound::by_itself::ends_at(last)
 }
 
 // 12, 21, 19 of a new partition behind n others, else its stores.
@@ -26,15 +29,13 @@ pub fn push_new(
     new: LogicalPartition,
     out: &mut [u8],
 ) -> Changed
-    ensures { λ r. ⌜ Tells r (now (out .entry)) (now (out .exit)) (spaceBehind e last new (length (now (out .entry)))) (storesBehind e n last new) ⌝ }
+    ensures { λ r. ⌜ Tells r (now (out .entry)) (now (out .exit)) (spaceBehind e n last new (length (now (out .entry)))) (storesBehind e n last new) ⌝ }
 {
-    let p = new.partition;
-    let former = last.partition;
     let at = new.absolute_ebr_lba;
     let place = at.0 as u64;
-    let area = end_of(e);
-    let end = end_of(p);
-    let behind = end_of(former);
+    let area = sound::in_turn::end_of(e);
+    let end = sound::by_itself::ends_at(new);
+    let behind = end_behind(n, last);
     if area < end {
         return Changed::Refused(Refusal::AFTER_END);
     }

@@ -1,5 +1,5 @@
 -- The chain of a sound table as one row of facts, both ways; what its extended entry is. Assumes nothing.
-use mathlib.Core.Path.{_≡_, refl, sym, subst}
+use mathlib.Core.Path.{_≡_, refl, sym, subst, _∙_}
 use mathlib.Core.Logic.{_⊎_, inl, inr}
 use mathlib.Core.Option.{Option, none, some}
 use mathlib.Core.Bool.{Bool, true, false, not}
@@ -21,22 +21,55 @@ use Rattle.table.specs.declared.LogicalPartition.{LogicalPartition}
 use Rattle.table.specs.Table.{parts}
 use Rattle.chain.specs.Facts.{at, start, Before}
 use Rattle.sound.specs.Is.{later}
-use Rattle.sound.specs.Sound.{Contents, primariesOf, extendedEntry, areaStart, areaEnd, end, bound, Flagged, EntryChs, LogicalChs, Used, Extended, EndsBy, FirstAt, OfLink, Sound}
+use Rattle.sound.specs.Sound.{Contents, primariesOf, extendedEntry, areaStart, areaEnd, Vacant, vacantb, end, zones, bound, Flagged, EntryChs, LogicalChs, Used, Extended, EndsBy, FirstAt, OfLink, Sound}
+use Rattle.sound.proofs.Is.{is-eq, is-and}
 
 -- the rules of a logical partition by itself
 pub record Own (l : LogicalPartition) : Type 0 where
   pub flag : Flagged (l .partition)
   pub chs : LogicalChs l
-  pub used : Used (l .partition)
   pub plain : ¬ (Extended (l .partition))
 
--- it stands after its EBR
-pub record Place (l : LogicalPartition) : Type 0 where
+-- a zone: used, after its EBR
+pub record Zone (l : LogicalPartition) : Type 0 where
+  pub used : Used (l .partition)
   pub after : at l < start l
   pub size : 1 ≤ l .partition .sectors
 
--- the link to a later one, up to the extended end
+-- a zone, or an EBR without a partition
+abbrev pub Place : LogicalPartition → Type 0
+Place l = Zone l ⊎ (vacantb l ≡ true)
+
+pub vacant-of : (l : LogicalPartition) → vacantb l ≡ true → Vacant l
+unfolding vacantb
+vacant-of l h =
+    let k = is-and _ _ _ _ (is-eq (l .partition .sys) 0) (is-and _ _ _ _ (is-eq (start l) (at l)) (is-eq (l .partition .sectors) 0)) .to h in
+    record { sys = k .0; place = k .1 .0; sectors = k .1 .1 }
+
+-- where they end
+pub sized-end : (l : LogicalPartition) → 1 ≤ l .partition .sectors → end l ≡ endOf (l .partition)
+unfolding end
+sized-end l h = go (vacantb l) refl
+  where
+    go : (b : Bool) → vacantb l ≡ b → pick b (at l + 1) (endOf (l .partition)) ≡ endOf (l .partition)
+    go false q = refl
+    go true q = absurd (omega (arith, vacant-of l q .sectors))
+
+pub zone-end : (l : LogicalPartition) → Zone l → end l ≡ endOf (l .partition)
+zone-end l z = sized-end l (z .size)
+
+pub vacant-end : (l : LogicalPartition) → vacantb l ≡ true → end l ≡ at l + 1
+unfolding end
+vacant-end l h = rw h
+
+-- an EBR ends before its partition does
+pub place-above : (l : LogicalPartition) → Place l → at l < end l
+place-above l (inl z) = omega (arith, zone-end l z, z .after, z .size)
+place-above l (inr h) = omega (arith, vacant-end l h)
+
+-- the link to a later one, which is a zone, up to the extended end
 pub record Span (hi : ℕ) (m : LogicalPartition) : Type 0 where
+  pub zone : Zone m
   pub span : ℕ
   pub sectors : m .«ebr_sectors» ≡ Present span
   pub size : 1 ≤ span
@@ -53,38 +86,42 @@ pub record Good (hi : ℕ) (l : LogicalPartition) (n : Option LogicalPartition) 
   pub ends : end l ≤ bound hi n
   pub linked : Linked hi n
 
-span-of : (hi : ℕ) (m : LogicalPartition) → OfLink (λ n. 1 ≤ n) ⊥ (m .«ebr_sectors») → OfLink (λ n. at m + n ≤ hi) (Unit {0}) (m .«ebr_sectors»)
+span-of : (hi : ℕ) (m : LogicalPartition) → Zone m → OfLink (λ n. 1 ≤ n) ⊥ (m .«ebr_sectors») → OfLink (λ n. at m + n ≤ hi) (Unit {0}) (m .«ebr_sectors»)
     → OfLink (λ n. end m ≤ at m + n) (Unit {0}) (m .«ebr_sectors») → Span hi m
-span-of hi m a b c = go (m .«ebr_sectors») refl a b c
+span-of hi m z a b c = go (m .«ebr_sectors») refl a b c
   where
     go : (s : MaybeSectors) → m .«ebr_sectors» ≡ s → OfLink (λ n. 1 ≤ n) ⊥ s → OfLink (λ n. at m + n ≤ hi) (Unit {0}) s
         → OfLink (λ n. end m ≤ at m + n) (Unit {0}) s → Span hi m
     go Absent q a b c = absurd a
-    go (Present n) q a b c = record { span = n; sectors = q; size = a; ends = b; covers = c }
+    go (Present n) q a b c = record { zone = z; span = n; sectors = q; size = a; ends = b; covers = c }
 
 good-row : (hi : ℕ) (l : LogicalPartition) (ls : List LogicalPartition) → All Flagged (parts (l ∷ ls)) → All LogicalChs (l ∷ ls)
-    → All (λ x. Used (x .partition)) (l ∷ ls) → All (λ x. ¬ (Extended (x .partition))) (l ∷ ls) → All (λ x. 1 ≤ x .partition .sectors) (l ∷ ls)
-    → All (λ x. at x < start x) (l ∷ ls) → Row (EndsBy hi) (l ∷ ls) none → All (λ x. OfLink (λ n. 1 ≤ n) ⊥ (x .«ebr_sectors»)) ls
-    → All (λ x. OfLink (λ n. at x + n ≤ hi) (Unit {0}) (x .«ebr_sectors»)) ls → All (λ x. OfLink (λ n. end x ≤ at x + n) (Unit {0}) (x .«ebr_sectors»)) ls
-    → Row (Good hi) (l ∷ ls) none
-good-row hi l [] f c u p s a e i j k = (
+    → All (λ x. ¬ (Extended (x .partition))) (l ∷ ls) → Place l → All Zone ls → Row (EndsBy hi) (l ∷ ls) none
+    → All (λ x. OfLink (λ n. 1 ≤ n) ⊥ (x .«ebr_sectors»)) ls → All (λ x. OfLink (λ n. at x + n ≤ hi) (Unit {0}) (x .«ebr_sectors»)) ls
+    → All (λ x. OfLink (λ n. end x ≤ at x + n) (Unit {0}) (x .«ebr_sectors»)) ls → Row (Good hi) (l ∷ ls) none
+good-row hi l [] f c p w z e i j k = (record { own = record { flag = f .0; chs = c .0; plain = p .0 }; place = w; ends = e .0; linked = tt }, tt)
+good-row hi l (m ∷ ms) f c p w z e i j k = (
   record {
-    own = record { flag = f .0; chs = c .0; used = u .0; plain = p .0 };
-    place = record { after = a .0; size = s .0 };
+    own = record { flag = f .0; chs = c .0; plain = p .0 };
+    place = w;
     ends = e .0;
-    linked = tt;
+    linked = span-of hi m (z .0) (i .0) (j .0) (k .0);
   },
-  tt,
+  good-row hi m ms (f .1) (c .1) (p .1) (inl (z .0)) (z .1) (e .1) (i .1) (j .1) (k .1),
 )
-good-row hi l (m ∷ ms) f c u p s a e i j k = (
-  record {
-    own = record { flag = f .0; chs = c .0; used = u .0; plain = p .0 };
-    place = record { after = a .0; size = s .0 };
-    ends = e .0;
-    linked = span-of hi m (i .0) (j .0) (k .0);
-  },
-  good-row hi m ms (f .1) (c .1) (u .1) (p .1) (s .1) (a .1) (e .1) (i .1) (j .1) (k .1),
-)
+
+all-zones : (ls : List LogicalPartition) → All (λ x. Used (x .partition)) ls → All (λ x. 1 ≤ x .partition .sectors) ls → All (λ x. at x < start x) ls → All Zone ls
+all-zones [] u s a = tt
+all-zones (l ∷ ls) u s a = (record { used = u .0; after = a .0; size = s .0 }, all-zones ls (u .1) (s .1) (a .1))
+
+-- all but the first are zones
+zones-parts : (l : LogicalPartition) (ls : List LogicalPartition) → All Zone (zones (l ∷ ls)) → Place l × All Zone ls
+unfolding zones
+zones-parts l ls a = go (vacantb l) refl a
+  where
+    go : (b : Bool) → vacantb l ≡ b → All Zone (pick b ls (l ∷ ls)) → Place l × All Zone ls
+    go true q a = (inr q, a)
+    go false q a = (inl (a .0), a .1)
 
 pub sound-first : (t : Contents) (e : MBRPartitionEntry) → Sound t → extendedEntry t ≡ some e → FirstAt (e .«starting_lba») (t .logicals)
 unfolding areaStart
@@ -92,15 +129,18 @@ sound-first t e s x = rw x at (s .first)
 
 pub sound-row : (t : Contents) (e : MBRPartitionEntry) → Sound t → extendedEntry t ≡ some e → Row (Good (endOf e)) (t .logicals) none
 unfolding areaEnd
-sound-row t e s x = go (t .logicals) (s .flags .1) (s .addresses .1) (s .used) (s .plain) (s .sized) (s .behind) (rw x at (s .ends)) (s .link-sized) (rw x at (s .link-ends)) (s .link-covers)
+sound-row t e s x =
+    go (t .logicals) (s .flags .1) (s .addresses .1) (s .plain) (all-zones (zones (t .logicals)) (s .used) (s .sized) (s .behind)) (rw x at (s .ends)) (s .link-sized) (rw x at (s .link-ends))
+    (s .link-covers)
   where
-    go : (ls : List LogicalPartition) → All Flagged (parts ls) → All LogicalChs ls → All (λ x. Used (x .partition)) ls → All (λ x. ¬ (Extended (x .partition))) ls
-        → All (λ x. 1 ≤ x .partition .sectors) ls → All (λ x. at x < start x) ls → Row (EndsBy (endOf e)) ls none
-        → All (λ x. OfLink (λ n. 1 ≤ n) ⊥ (x .«ebr_sectors»)) (later ls)
+    go : (ls : List LogicalPartition) → All Flagged (parts ls) → All LogicalChs ls → All (λ x. ¬ (Extended (x .partition))) ls → All Zone (zones ls)
+        → Row (EndsBy (endOf e)) ls none → All (λ x. OfLink (λ n. 1 ≤ n) ⊥ (x .«ebr_sectors»)) (later ls)
         → All (λ x. OfLink (λ n. at x + n ≤ endOf e) (Unit {0}) (x .«ebr_sectors»)) (later ls)
         → All (λ x. OfLink (λ n. end x ≤ at x + n) (Unit {0}) (x .«ebr_sectors»)) (later ls) → Row (Good (endOf e)) ls none
-    go [] f c u p s a r i j k = tt
-    go (l ∷ ls) f c u p s a r i j k = good-row (endOf e) l ls f c u p s a r i j k
+    go [] f c p z r i j k = tt
+    go (l ∷ ls) f c p z r i j k =
+        let w = zones-parts l ls z in
+        good-row (endOf e) l ls f c p (w .0) (w .1) r i j k
 
 of-link : (P : ℕ → Type 0) (Q : Type 0) (s : MaybeSectors) (n : ℕ) → s ≡ Present n → P n → OfLink P Q s
 of-link P Q s n e p = subst (OfLink P Q) (sym e) p
@@ -122,10 +162,26 @@ module _ (hi : ℕ) where
   row-links P f (l ∷ []) g = tt
   row-links P f (l ∷ m ∷ ms) g = (f m (g .0 .linked), row-links P f (m ∷ ms) (g .1))
 
+  -- those with a partition are zones
+  row-zones : (P : LogicalPartition → Type 0) → ((l : LogicalPartition) → Zone l → P l) → (ls : List LogicalPartition) → Row (Good hi) ls none → All P (zones ls)
+  unfolding zones
+  row-zones P f [] g = tt
+  row-zones P f (l ∷ ls) g = go (vacantb l) refl (g .0 .place)
+    where
+      rest : All P ls
+      rest = row-links P (λ m k. f m (k .zone)) (l ∷ ls) g
+
+      go : (b : Bool) → vacantb l ≡ b → Place l → All P (pick b ls (l ∷ ls))
+      go true q w = rest
+      go false q (inl z) = (f l z, rest)
+      go false q (inr h) =
+          let w : _≡_ {A = Bool} true false = sym h ∙ q in
+          let n : _≡_ {A = ℕ} 0 1 = cc in
+          absurd (omega arith)
+
   before-good : (l : LogicalPartition) (n : Option LogicalPartition) → Good hi l n → Before l n
-  unfolding end
   before-good l none g = tt
-  before-good l (some m) g = omega (arith, g .place .after, g .ends)
+  before-good l (some m) g = omega (arith, place-above l (g .place), g .ends)
 
   -- a sound table's chain may be exchanged for any row of good ones
   pub resound : (t : Contents) (e : MBRPartitionEntry) → endOf e ≡ hi → Sound t → extendedEntry t ≡ some e → (ls : List LogicalPartition)
@@ -141,10 +197,10 @@ module _ (hi : ℕ) where
     apart = s .apart;
     one = s .one;
     owned = rw x tt;
-    used = row-all _ (λ l n k. k .own .used) ls none g;
+    used = row-zones _ (λ l z. z .used) ls g;
     plain = row-all _ (λ l n k. k .own .plain) ls none g;
-    sized = row-all _ (λ l n k. k .place .size) ls none g;
-    behind = row-all _ (λ l n k. k .place .after) ls none g;
+    sized = row-zones _ (λ l z. z .size) ls g;
+    behind = row-zones _ (λ l z. z .after) ls g;
     ends = rw (x, h) (row-map (Good hi) (EndsBy hi) (λ l n k. k .ends) ls none g);
     first = rw x f;
     ascend = row-map (Good hi) Before before-good ls none g;

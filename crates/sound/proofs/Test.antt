@@ -20,7 +20,7 @@ use Rattle.table.specs.declared.LogicalPartition.{LogicalPartition}
 use Rattle.table.specs.Table.{parts}
 use Rattle.chain.specs.Facts.{at, start, Before}
 use Rattle.sound.specs.Is.{Is, later}
-use Rattle.sound.specs.Sound.{Contents, primariesOf, extendedEntry, areaStart, areaEnd, end, bound, Signed, signedb, Flagged, Flags, flagsb, Within, withinb, IfThere, ifThereb, EntryChs, entryChsb, LogicalChs, logicalChsb, Addresses, addressesb, Starts, startsb, Sizes, sizesb, OnDisk, onDiskb, Apart, apartb, AllApart, allApartb, NotBoth, notBothb, OneExtended, oneExtendedb, Owned, ownedb, LogicalsUsed, logicalsUsedb, LogicalsPlain, logicalsPlainb, LogicalsSized, logicalsSizedb, AfterEbr, afterEbrb, Ends, endsb, FirstAt, firstAtb, Ascend, beforeb, ascendb, OfLink, ofLinkb, LinksSized, linksSizedb, LinksEnd, linksEndb, LinksCover, linksCoverb, Sound, soundRules, soundb}
+use Rattle.sound.specs.Sound.{Contents, primariesOf, extendedEntry, areaStart, areaEnd, end, zones, bound, Signed, signedb, Flagged, Flags, flagsb, Within, withinb, IfThere, ifThereb, EntryChs, entryChsb, LogicalChs, logicalChsb, Addresses, addressesb, Starts, startsb, Sizes, sizesb, OnDisk, onDiskb, Apart, apartb, AllApart, allApartb, NotBoth, notBothb, OneExtended, oneExtendedb, Owned, ownedb, LogicalsUsed, logicalsUsedb, LogicalsPlain, logicalsPlainb, LogicalsSized, logicalsSizedb, AfterEbr, afterEbrb, Ends, endsb, FirstAt, firstAtb, Ascend, beforeb, ascendb, OfLink, ofLinkb, LinksSized, linksSizedb, LinksEnd, linksEndb, LinksCover, linksCoverb, Sound, soundRules, soundb}
 use Rattle.sound.proofs.Is.{is-lt, is-le, is-eq, is-true, is-unit, is-never, is-not, is-and, is-or, is-if, is-as, is-all, is-pairs, is-row}
 
 pub is-flag : (e : MBRPartitionEntry) → Is (Flagged e) (flagOk e)
@@ -108,7 +108,7 @@ module _ (t : Contents) where
 
   pub is-used : Is (LogicalsUsed t) (logicalsUsedb t)
   unfolding logicalsUsedb
-  is-used = is-all _ _ (λ l. is-true (used (l .partition .sys))) (t .logicals)
+  is-used = is-all _ _ (λ l. is-true (used (l .partition .sys))) (zones (t .logicals))
 
   pub is-plain : Is (LogicalsPlain t) (logicalsPlainb t)
   unfolding logicalsPlainb
@@ -116,11 +116,11 @@ module _ (t : Contents) where
 
   pub is-sized : Is (LogicalsSized t) (logicalsSizedb t)
   unfolding logicalsSizedb
-  is-sized = is-all _ _ (λ l. is-le 1 (l .partition .sectors)) (t .logicals)
+  is-sized = is-all _ _ (λ l. is-le 1 (l .partition .sectors)) (zones (t .logicals))
 
   pub is-after : Is (AfterEbr t) (afterEbrb t)
   unfolding afterEbrb
-  is-after = is-all _ _ (λ l. is-lt (at l) (start l)) (t .logicals)
+  is-after = is-all _ _ (λ l. is-lt (at l) (start l)) (zones (t .logicals))
 
   pub is-ends : Is (Ends t) (endsb t)
   unfolding endsb

@@ -1,5 +1,6 @@
 -- The rules in the code's order are rules S1 to S19. Assumes nothing.
 use mathlib.Core.Path.{_≡_, refl, sym, subst, _∙_}
+use mathlib.Core.Logic.{_⊎_, inl, inr}
 use mathlib.Core.Option.{Option, none, some}
 use mathlib.Core.Bool.{Bool, true, false, _&&_}
 use mathlib.Core.List.{List, [], _∷_}
@@ -20,11 +21,11 @@ use Rattle.table.specs.declared.LogicalPartition.{LogicalPartition}
 use Rattle.table.specs.Table.{noLogical}
 use Rattle.chain.specs.Facts.{at, start}
 use Rattle.sound.specs.Is.{Is, Pairs}
-use Rattle.sound.specs.Sound.{Contents, primariesOf, extendedEntry, end, Signed, Flagged, EntryChs, LogicalChs, Used, Apart, Extended, NotBoth, Owned, FirstAt, OfLink, Sound, soundb}
-use Rattle.sound.specs.Walk.{spanb, primaryb, pairb, ownb, placeb, coverb, linkb, turnb, standb, rowsb, chainb, walkb}
-use Rattle.sound.proofs.Is.{is-lt, is-le, is-eq, is-true, is-unit, is-never, is-not, is-and, is-if, is-all, is-pairs}
+use Rattle.sound.specs.Sound.{Contents, primariesOf, extendedEntry, vacantb, end, zones, Signed, Flagged, EntryChs, LogicalChs, Used, Apart, Extended, NotBoth, Owned, FirstAt, OfLink, Sound, soundb}
+use Rattle.sound.specs.Walk.{spanb, primaryb, pairb, ownb, zoneb, placeb, coverb, linkb, turnb, standb, rowsb, chainb, walkb}
+use Rattle.sound.proofs.Is.{is-lt, is-le, is-eq, is-true, is-unit, is-never, is-not, is-and, is-or, is-if, is-all, is-pairs}
 use Rattle.sound.proofs.Test.{is-flag, is-entry-chs, is-logical-chs, is-apart, is-not-both, is-link, is-signed, is-sound}
-use Rattle.sound.proofs.Good.{Own, Place, Span, Good, sound-first, sound-row, resound}
+use Rattle.sound.proofs.Good.{Own, Zone, Place, Span, Good, sound-first, sound-row, resound}
 
 pub bool-ext : (a b : Bool) → (a ≡ true → b ≡ true) → (b ≡ true → a ≡ true) → a ≡ b
 bool-ext true b f g = sym (f refl)
@@ -46,10 +47,13 @@ abbrev Pair : MBRPartitionEntry → MBRPartitionEntry → Type 0
 Pair e f = Apart e f × NotBoth e f
 
 abbrev Alone : LogicalPartition → Type 0
-Alone l = Flagged (l .partition) × (LogicalChs l × (Used (l .partition) × (¬ (Extended (l .partition)))))
+Alone l = Flagged (l .partition) × (LogicalChs l × (¬ (Extended (l .partition))))
 
 abbrev Behind : LogicalPartition → Type 0
-Behind l = (1 ≤ l .partition .sectors) × (at l < start l)
+Behind l = Used (l .partition) × ((1 ≤ l .partition .sectors) × (at l < start l))
+
+abbrev Stays : Bool → LogicalPartition → Type 0
+Stays first l = Behind l ⊎ ((first ≡ true) × (vacantb l ≡ true))
 
 abbrev Covers : ℕ → LogicalPartition → ℕ → Type 0
 Covers hi l n = (1 ≤ n) × ((at l + n ≤ hi) × (end l ≤ at l + n))
@@ -62,7 +66,7 @@ Turn hi true from l = at l ≡ from
 Turn hi false from l = (from ≤ at l) × Link hi l
 
 abbrev Stand : ℕ → Bool → ℕ → LogicalPartition → Type 0
-Stand hi first from l = Alone l × (Behind l × Turn hi first from l)
+Stand hi first from l = Alone l × (Stays first l × Turn hi first from l)
 
 abbrev Rows : ℕ → Bool → ℕ → List LogicalPartition → Type 0
 Rows hi first from [] = from ≤ hi
@@ -89,12 +93,15 @@ is-alone : (l : LogicalPartition) → Is (Alone l) (ownb l)
 unfolding ownb
 is-alone l =
     is-and _ _ _ _ (is-flag (l .partition))
-    (is-and _ _ _ _ (is-logical-chs l)
-    (is-and _ _ _ _ (is-true (used (l .partition .sys))) (is-not _ _ (is-true (extended (l .partition .sys))))))
+    (is-and _ _ _ _ (is-logical-chs l) (is-not _ _ (is-true (extended (l .partition .sys)))))
 
-is-behind : (l : LogicalPartition) → Is (Behind l) (placeb l)
+is-behind : (l : LogicalPartition) → Is (Behind l) (zoneb l)
+unfolding zoneb
+is-behind l = is-and _ _ _ _ (is-true (used (l .partition .sys))) (is-and _ _ _ _ (is-le 1 (l .partition .sectors)) (is-lt (at l) (start l)))
+
+is-stays : (first : Bool) (l : LogicalPartition) → Is (Stays first l) (placeb first l)
 unfolding placeb
-is-behind l = is-and _ _ _ _ (is-le 1 (l .partition .sectors)) (is-lt (at l) (start l))
+is-stays first l = is-or _ _ _ _ (is-behind l) (is-and _ _ _ _ (is-true first) (is-true (vacantb l)))
 
 is-covers : (hi : ℕ) (l : LogicalPartition) (n : ℕ) → Is (Covers hi l n) (coverb hi l n)
 unfolding coverb
@@ -107,7 +114,7 @@ is-turn hi false from l = is-and _ _ _ _ (is-le from (at l)) (is-link (Covers hi
 
 is-stand : (hi : ℕ) (first : Bool) (from : ℕ) (l : LogicalPartition) → Is (Stand hi first from l) (standb hi first from l)
 unfolding standb
-is-stand hi first from l = is-and _ _ _ _ (is-alone l) (is-and _ _ _ _ (is-behind l) (is-turn hi first from l))
+is-stand hi first from l = is-and _ _ _ _ (is-alone l) (is-and _ _ _ _ (is-stays first l) (is-turn hi first from l))
 
 is-rows : (hi : ℕ) (first : Bool) (from : ℕ) (ls : List LogicalPartition) → Is (Rows hi first from ls) (rowsb hi first from ls)
 unfolding rowsb
@@ -131,39 +138,55 @@ is-walk t =
     (is-and _ _ _ _ (is-pairs Pair pairb is-pair (primariesOf t)) (is-chain (extendedEntry t) (t .logicals))))
 
 -- a chain as a row of good partitions, both ways
-span-in : (hi : ℕ) (m : LogicalPartition) → Link hi m → Span hi m
-span-in hi m k = go (m .«ebr_sectors») refl k
+span-in : (hi : ℕ) (m : LogicalPartition) → Zone m → Link hi m → Span hi m
+span-in hi m z k = go (m .«ebr_sectors») refl k
   where
     go : (s : MaybeSectors) → m .«ebr_sectors» ≡ s → OfLink (Covers hi m) ⊥ s → Span hi m
     go Absent q k = absurd k
-    go (Present n) q k = record { span = n; sectors = q; size = k .0; ends = k .1 .0; covers = k .1 .1 }
+    go (Present n) q k = record { zone = z; span = n; sectors = q; size = k .0; ends = k .1 .0; covers = k .1 .1 }
 
 in-span : (hi : ℕ) (m : LogicalPartition) → Span hi m → Link hi m
 in-span hi m s = subst (OfLink (Covers hi m) ⊥) (sym (s .sectors)) (s .size, (s .ends, s .covers))
 
 own-of : (l : LogicalPartition) → Alone l → Own l
-own-of l a = record { flag = a .0; chs = a .1 .0; used = a .1 .1 .0; plain = a .1 .1 .1 }
+own-of l a = record { flag = a .0; chs = a .1 .0; plain = a .1 .1 }
 
-place-of : (l : LogicalPartition) → Behind l → Place l
-place-of l b = record { after = b .1; size = b .0 }
+zone-of : (l : LogicalPartition) → Behind l → Zone l
+zone-of l b = record { used = b .0; after = b .1 .1; size = b .1 .0 }
+
+place-of : (first : Bool) (l : LogicalPartition) → Stays first l → Place l
+place-of first l (inl b) = inl (zone-of l b)
+place-of first l (inr v) = inr (v .1)
+
+-- a later one is a zone
+later-zone : (l : LogicalPartition) → Stays false l → Zone l
+later-zone l (inl b) = zone-of l b
+later-zone l (inr v) = let w : _≡_ {A = Bool} false true = v .0 in let n : _≡_ {A = ℕ} 0 1 = cc in absurd (omega arith)
 
 rows→good : (hi : ℕ) (first : Bool) (from : ℕ) (ls : List LogicalPartition) → Rows hi first from ls → Row (Good hi) ls none
 rows→good hi first from [] r = tt
-rows→good hi first from (l ∷ []) (s, r) = (record { own = own-of l (s .0); place = place-of l (s .1 .0); ends = r; linked = tt }, tt)
+rows→good hi first from (l ∷ []) (s, r) = (record { own = own-of l (s .0); place = place-of first l (s .1 .0); ends = r; linked = tt }, tt)
 rows→good hi first from (l ∷ m ∷ ms) (s, (k, r)) = (
-  record { own = own-of l (s .0); place = place-of l (s .1 .0); ends = k .1 .1 .0; linked = span-in hi m (k .1 .1 .1) },
+  record { own = own-of l (s .0); place = place-of first l (s .1 .0); ends = k .1 .1 .0; linked = span-in hi m (later-zone m (k .1 .0)) (k .1 .1 .1) },
   rows→good hi false (end l) (m ∷ ms) (k, r),
 )
 
-stand-of : (hi : ℕ) (first : Bool) (from : ℕ) (l : LogicalPartition) (n : Option LogicalPartition) → Turn hi first from l → Good hi l n → Stand hi first from l
-stand-of hi first from l n t g = ((g .own .flag, (g .own .chs, (g .own .used, g .own .plain))), ((g .place .size, g .place .after), t))
+behind-of : (l : LogicalPartition) → Zone l → Behind l
+behind-of l z = (z .used, (z .size, z .after))
 
-good→rows : (hi : ℕ) (first : Bool) (from : ℕ) (l : LogicalPartition) (ls : List LogicalPartition) → Turn hi first from l → Row (Good hi) (l ∷ ls) none
+stays-of : (l : LogicalPartition) → Place l → Stays true l
+stays-of l (inl z) = inl (behind-of l z)
+stays-of l (inr v) = inr (refl, v)
+
+stand-of : (hi : ℕ) (first : Bool) (from : ℕ) (l : LogicalPartition) (n : Option LogicalPartition) → Stays first l → Turn hi first from l → Good hi l n → Stand hi first from l
+stand-of hi first from l n w t g = ((g .own .flag, (g .own .chs, g .own .plain)), (w, t))
+
+good→rows : (hi : ℕ) (first : Bool) (from : ℕ) (l : LogicalPartition) (ls : List LogicalPartition) → Stays first l → Turn hi first from l → Row (Good hi) (l ∷ ls) none
     → Rows hi first from (l ∷ ls)
-good→rows hi first from l [] t (g, r) = (stand-of hi first from l none t g, g .ends)
-good→rows hi first from l (m ∷ ms) t (g, r) = (
-  stand-of hi first from l (some m) t g,
-  good→rows hi false (end l) m ms (g .ends, in-span hi m (g .linked)) r,
+good→rows hi first from l [] w t (g, r) = (stand-of hi first from l none w t g, g .ends)
+good→rows hi first from l (m ∷ ms) w t (g, r) = (
+  stand-of hi first from l (some m) w t g,
+  good→rows hi false (end l) m ms (inl (behind-of m (g .linked .zone))) (g .ends, in-span hi m (g .linked)) r,
 )
 
 rows-first : (hi : ℕ) (from : ℕ) (ls : List LogicalPartition) → Rows hi true from ls → FirstAt from ls
@@ -173,7 +196,7 @@ rows-first hi from (l ∷ ls) r = r .0 .1 .1
 first-rows : (e : MBRPartitionEntry) (ls : List LogicalPartition) → FirstAt (e .«starting_lba») ls → Row (Good (endOf e)) ls none
     → Rows (endOf e) true (e .«starting_lba») ls
 first-rows e [] f r = omega arith
-first-rows e (l ∷ ls) f r = good→rows (endOf e) true (e .«starting_lba») l ls f r
+first-rows e (l ∷ ls) f r = good→rows (endOf e) true (e .«starting_lba») l ls (stays-of l (r .0 .place)) f r
 
 -- facts of all entries, and of all pairs
 module _ {A : Type 0} where
@@ -203,6 +226,7 @@ module _ (t : Contents) where
   owned-none (some e) = tt
 
   bare-sound : Signed t → All (Primary (t .size)) (primariesOf t) → Pairs Pair (primariesOf t) → Sound (bare t)
+  unfolding zones
   bare-sound s a p = record {
     signed = s;
     flags = (all-map (Primary (t .size)) Flagged (λ e k. k .0) (primariesOf t) a, tt);

@@ -7,6 +7,7 @@ use mathlib.Core.Option.{Option, none, some, Option·getD}
 use mathlib.Core.List.{List, [], _∷_}
 use lib.Dec.{ltb, leb, eqb}
 use lib.ListN.{getD}
+use Rattle.base.specs.Pick.{pick}
 use Rattle.base.specs.Bytes.{standsAt, signature}
 use Rattle.base.specs.Said.{Said}
 use Rattle.base.specs.Checks.{Check, _!_, checked, answer}
@@ -51,9 +52,24 @@ areaStart o = Option·getD o noEntry .«starting_lba»
 unfoldable pub areaEnd : Option MBRPartitionEntry → ℕ
 areaEnd o = endOf (Option·getD o noEntry)
 
--- where a logical partition ends
+-- rule S31: an EBR without a partition: type 0, the start on the EBR itself, no sectors
+pub record Vacant (l : LogicalPartition) : Type 0 where
+  pub sys : l .partition .sys ≡ 0
+  pub place : start l ≡ at l
+  pub sectors : l .partition .sectors ≡ 0
+
+-- rule S31
+unfoldable pub vacantb : LogicalPartition → Bool
+vacantb l = eqb (l .partition .sys) 0 && (eqb (start l) (at l) && eqb (l .partition .sectors) 0)
+
+-- where a logical partition ends; an EBR without one ends behind itself (rule S32)
 unfoldable pub end : LogicalPartition → ℕ
-end l = start l + l .partition .sectors
+end l = pick (vacantb l) (at l + 1) (endOf (l .partition))
+
+-- those with a partition: all, or all but a first EBR without one (rule S31)
+unfoldable pub zones : List LogicalPartition → List LogicalPartition
+zones [] = []
+zones (l ∷ ls) = pick (vacantb l) ls (l ∷ ls)
 
 -- rule S1: signature 55 AA
 abbrev pub Signed : Contents → Type 0
@@ -173,12 +189,12 @@ ownedb none [] = true
 ownedb none (l ∷ ls) = false
 ownedb (some e) ls = true
 
--- rules S10 to S13: each logical is used, not extended, has at least 1 sector, starts after its EBR
+-- rules S10 to S13: each logical is used, not extended, has at least 1 sector, starts after its EBR; a first EBR without a partition need not be used, sized or behind itself
 abbrev pub LogicalsUsed : Contents → Type 0
-LogicalsUsed t = All (λ l. Used (l .partition)) (t .logicals)
+LogicalsUsed t = All (λ l. Used (l .partition)) (zones (t .logicals))
 
 unfoldable pub logicalsUsedb : Contents → Bool
-logicalsUsedb t = allb (λ l. used (l .partition .sys)) (t .logicals)
+logicalsUsedb t = allb (λ l. used (l .partition .sys)) (zones (t .logicals))
 
 abbrev pub LogicalsPlain : Contents → Type 0
 LogicalsPlain t = All (λ l. ¬ (Extended (l .partition))) (t .logicals)
@@ -187,16 +203,16 @@ unfoldable pub logicalsPlainb : Contents → Bool
 logicalsPlainb t = allb (λ l. not (extended (l .partition .sys))) (t .logicals)
 
 abbrev pub LogicalsSized : Contents → Type 0
-LogicalsSized t = All (λ l. 1 ≤ l .partition .sectors) (t .logicals)
+LogicalsSized t = All (λ l. 1 ≤ l .partition .sectors) (zones (t .logicals))
 
 unfoldable pub logicalsSizedb : Contents → Bool
-logicalsSizedb t = allb (λ l. leb 1 (l .partition .sectors)) (t .logicals)
+logicalsSizedb t = allb (λ l. leb 1 (l .partition .sectors)) (zones (t .logicals))
 
 abbrev pub AfterEbr : Contents → Type 0
-AfterEbr t = All (λ l. at l < start l) (t .logicals)
+AfterEbr t = All (λ l. at l < start l) (zones (t .logicals))
 
 unfoldable pub afterEbrb : Contents → Bool
-afterEbrb t = allb (λ l. ltb (at l) (start l)) (t .logicals)
+afterEbrb t = allb (λ l. ltb (at l) (start l)) (zones (t .logicals))
 
 -- rule S14: ends by the next EBR or the extended end
 abbrev pub bound : ℕ → Option LogicalPartition → ℕ

@@ -11,7 +11,7 @@ use Rattle.record_entry.specs.Entry.{flagOk, used, extended, endOf}
 use Rattle.table.specs.declared.LogicalPartition.{LogicalPartition}
 use Rattle.chain.specs.Facts.{at, start}
 use Rattle.sound.specs.Is.{pairsb}
-use Rattle.sound.specs.Sound.{Contents, primariesOf, extendedEntry, end, signedb, entryChsb, logicalChsb, apartb, notBothb, ofLinkb}
+use Rattle.sound.specs.Sound.{Contents, primariesOf, extendedEntry, vacantb, end, signedb, entryChsb, logicalChsb, apartb, notBothb, ofLinkb}
 
 -- start and sectors at least 1, the end by D
 unfoldable pub spanb : ℕ → MBRPartitionEntry → Bool
@@ -25,13 +25,17 @@ primaryb D e = flagOk e && (entryChsb e && (not (used (e .sys)) || spanb D e))
 unfoldable pub pairb : MBRPartitionEntry → MBRPartitionEntry → Bool
 pairb e f = apartb e f && notBothb e f
 
--- a logical partition by itself: flag, CHS, used, not extended
+-- a logical partition by itself: flag, CHS, not extended
 unfoldable pub ownb : LogicalPartition → Bool
-ownb l = flagOk (l .partition) && (logicalChsb l && (used (l .partition .sys) && not (extended (l .partition .sys))))
+ownb l = flagOk (l .partition) && (logicalChsb l && not (extended (l .partition .sys)))
 
--- at least 1 sector, after its EBR
-unfoldable pub placeb : LogicalPartition → Bool
-placeb l = leb 1 (l .partition .sectors) && ltb (at l) (start l)
+-- a zone: used, at least 1 sector, after its EBR
+unfoldable pub zoneb : LogicalPartition → Bool
+zoneb l = used (l .partition .sys) && (leb 1 (l .partition .sectors) && ltb (at l) (start l))
+
+-- a zone, or the first and an EBR without a partition
+unfoldable pub placeb : Bool → LogicalPartition → Bool
+placeb first l = zoneb l || (first && vacantb l)
 
 -- a link of n sectors: at least 1, ends by the extended end, covers its partition
 unfoldable pub coverb : ℕ → LogicalPartition → ℕ → Bool
@@ -46,7 +50,7 @@ unfoldable pub turnb : ℕ → Bool → ℕ → LogicalPartition → Bool
 turnb hi first from l = pick first (eqb (at l) from) (leb from (at l) && linkb hi l)
 
 unfoldable pub standb : ℕ → Bool → ℕ → LogicalPartition → Bool
-standb hi first from l = ownb l && (placeb l && turnb hi first from l)
+standb hi first from l = ownb l && (placeb first l && turnb hi first from l)
 
 -- one after the other; the last ends by the extended end
 unfoldable pub rowsb : ℕ → Bool → ℕ → List LogicalPartition → Bool

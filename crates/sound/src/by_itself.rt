@@ -4,8 +4,8 @@ use record_entry::MBRPartitionEntry;
 use table::LogicalPartition;
 use table::MaybeChs;
 ghost use mathlib.Core.Path.{_≡_};
-ghost use Rattle.sound.specs.Sound.{withinb, ifThereb, entryChsb, logicalChsb};
-ghost use Rattle.sound.specs.Walk.{ownb, placeb};
+ghost use Rattle.sound.specs.Sound.{withinb, ifThereb, entryChsb, logicalChsb, vacantb, end};
+ghost use Rattle.sound.specs.Walk.{ownb, zoneb, placeb};
 
 // Within 1,023 cylinders and sector 63?
 fn within(c: CHS) -> bool
@@ -55,7 +55,7 @@ fn within_logical(l: LogicalPartition) -> bool
     within_if_there(end)
 }
 
-// A logical partition by itself: flag, CHS, used, not extended.
+// A logical partition by itself: flag, CHS, not extended.
 pub fn good_alone(l: LogicalPartition) -> bool
     ensures { λ r. ⌜ r ≡ ownb l ⌝ }
 {
@@ -66,20 +66,60 @@ pub fn good_alone(l: LogicalPartition) -> bool
     if !within_logical(l) {
         return false;
     }
-    if p.sys == 0 {
-        return false;
-    }
     !p.is_extended()
 }
 
-// At least 1 sector, after its EBR.
-pub fn behind_ebr(l: LogicalPartition) -> bool
-    ensures { λ r. ⌜ r ≡ placeb l ⌝ }
+// A zone: used, at least 1 sector, after its EBR.
+fn is_zone(l: LogicalPartition) -> bool
+    ensures { λ r. ⌜ r ≡ zoneb l ⌝ }
 {
     let p = l.partition;
     let at = l.absolute_ebr_lba;
+    if p.sys == 0 {
+        return false;
+    }
     if p.sectors < 1 {
         return false;
     }
     at.0 < p.starting_lba
+}
+
+// An EBR without a partition: type 0, the start on the EBR itself, no sectors.
+fn is_vacant(l: LogicalPartition) -> bool
+    ensures { λ r. ⌜ r ≡ vacantb l ⌝ }
+{
+    let p = l.partition;
+    let at = l.absolute_ebr_lba;
+    if p.sys != 0 {
+        return false;
+    }
+    if p.starting_lba != at.0 {
+        return false;
+    }
+    p.sectors == 0
+}
+
+// A zone, or the first and an EBR without a partition.
+pub fn in_place(l: LogicalPartition, first: bool) -> bool
+    ensures { λ r. ⌜ r ≡ placeb first l ⌝ }
+{
+    if is_zone(l) {
+        return true;
+    }
+    if first {
+        return is_vacant(l);
+    }
+    false
+}
+
+// Where a logical partition ends; an EBR without one ends behind itself.
+pub fn ends_at(l: LogicalPartition) -> u64
+    ensures { λ r. ⌜ r ≡ end l ⌝ }
+{
+    if is_vacant(l) {
+        let at = l.absolute_ebr_lba;
+        return at.0 as u64 + 1;
+    }
+    let p = l.partition;
+    crate::in_turn::end_of(p)
 }

@@ -75,7 +75,7 @@ pub fn stands(l: LogicalPartition, first: bool, from: u64, hi: u64) -> bool
     if !crate::by_itself::good_alone(l) {
         return false;
     }
-    if !crate::by_itself::behind_ebr(l) {
+    if !crate::by_itself::in_place(l, first) {
         return false;
     }
     crate::in_turn::good_turn(l, first, from, hi)

@@ -25,8 +25,7 @@ fn good_cover(l: LogicalPartition, n: u32, hi: u64) -> bool
     if hi < end {
         return false;
     }
-    let e = l.partition;
-    end_of(e) <= end
+    crate::by_itself::ends_at(l) <= end
 }
 
 // The link sectors are there and do so.

@@ -69,8 +69,7 @@ fn good_rows(t: MBR, from: u32, hi: u64) -> bool
         if !sound::each::stands(l, i == 0, end, hi) {
             return false;
         }
-        let e = l.partition;
-        end = sound::in_turn::end_of(e);
+        end = sound::by_itself::ends_at(l);
     }
     end <= hi
 }

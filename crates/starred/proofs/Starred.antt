@@ -11,7 +11,7 @@ use Rattle.read_table.specs.Read.{headerOn, withChain, read, tableOf}
 use Rattle.table_address.specs.Address.{complete, addressed}
 use Rattle.table_push.specs.Push.{fresh, newLogical, roundChecks, placeChecks, endChecks, geometryChecks, pushChecks}
 use Rattle.sound.specs.Is.{pairsb, rowb}
-use Rattle.sound.specs.Sound.{areaStart, areaEnd, end, signedb, flagsb, addressesb, startsb, sizesb, onDiskb, allApartb, oneExtendedb, ownedb, logicalsUsedb, logicalsPlainb, logicalsSizedb, afterEbrb, endsb, firstAtb, ascendb, linksSizedb, linksEndb, linksCoverb, soundRules, soundb}
+use Rattle.sound.specs.Sound.{areaStart, areaEnd, vacantb, end, zones, signedb, flagsb, addressesb, startsb, sizesb, onDiskb, allApartb, oneExtendedb, ownedb, logicalsUsedb, logicalsPlainb, logicalsSizedb, afterEbrb, endsb, firstAtb, ascendb, linksSizedb, linksEndb, linksCoverb, soundRules, soundb}
 use Rattle.chain.specs.Links.{write}
 use Rattle.table_free.specs.Sort.{sort, insert}
 use Rattle.table_free.specs.Free.{free, primaryZones, logicalZones, ends, pairs, apart, kept}
@@ -22,5 +22,5 @@ use Rattle.starred.specs.Disks.{diskWith, blankAt, plainDisk, ebrK, K, a
 use Rattle.starred.specs.Starred.{rows, allHold}
 
 pub starred-hold : allHold rows ≡ true
-unfolding noKept ebrBytes extendedOf slots view placed follows chain logicalsOf usedStarts dividesAll largestStart divisorTo alignment headerOn withChain read tableOf complete addressed rounded fresh newLogical roundChecks placeChecks endChecks geometryChecks pushChecks allb pairsb rowb areaStart areaEnd end signedb flagsb addressesb startsb sizesb onDiskb allApartb oneExtendedb ownedb logicalsUsedb logicalsPlainb logicalsSizedb afterEbrb endsb firstAtb ascendb linksSizedb linksEndb linksCoverb soundRules soundb write sort insert free primaryZones logicalZones ends pairs apart kept roomy lastLogical lastListed pushStores tooWide askChecks spaceChecks pushRefusals pushChange carefulPush diskWith blankAt plainDisk ebrK K asked request summary pushedOnK
+unfolding noKept ebrBytes extendedOf slots view placed follows chain logicalsOf usedStarts dividesAll largestStart divisorTo alignment headerOn withChain read tableOf complete addressed rounded fresh newLogical roundChecks placeChecks endChecks geometryChecks pushChecks allb pairsb rowb areaStart areaEnd vacantb end zones signedb flagsb addressesb startsb sizesb onDiskb allApartb oneExtendedb ownedb logicalsUsedb logicalsPlainb logicalsSizedb afterEbrb endsb firstAtb ascendb linksSizedb linksEndb linksCoverb soundRules soundb write sort insert free primaryZones logicalZones ends pairs apart kept roomy lastLogical lastListed pushStores tooWide askChecks spaceChecks pushRefusals pushChange carefulPush diskWith blankAt plainDisk ebrK K asked request summary pushedOnK
 starred-hold = refl

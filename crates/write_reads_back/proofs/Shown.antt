@@ -42,7 +42,7 @@ use Rattle.careful.proofs.Places.{Fit, fit-of, off-over}
 use Rattle.careful.proofs.Aligned.{aligned}
 use Rattle.careful.proofs.Shown.{Shows, shows→contents, plain-of}
 use Rattle.careful.proofs.Push.{Writable}
-use Rattle.careful.proofs.Remove.{moved-heads, moved-good, moved-writable}
+use Rattle.careful.proofs.Remove.{first-stays, moved-heads, moved-good, moved-writable}
 use Rattle.write_reads_back.specs.RoundTrip.{Filled, Returning}
 use Rattle.write_reads_back.proofs.Rows.{Storing, off-after, row-stored, storing}
 use Rattle.write_reads_back.proofs.Parts.{header-ok, header-holds, writables, linkables, by-none, primaries-aligned}
@@ -108,7 +108,7 @@ module _ (t : MBR) (x : List ℕ) (room n : ℕ) (r : Returning t) (b : Bytes x)
     goods =
         let f : FirstAt X (l ∷ ls) = subst (FirstAt X) p (sound-first c e (r .sound) q) in
         let g : Row (Good (endOf e)) (l ∷ ls) none = subst (λ (k : List LogicalPartition). Row (Good (endOf e)) k none) p (sound-row c e (r .sound) q) in
-        (moved-good e (t .«disk_size») l (next ls none) area (omega arith) (g .0), g .1)
+        (moved-good e (t .«disk_size») l (next ls none) area (first-stays e l f (g .0 .place)) (g .0), g .1)
 
     fits : Row (Fit (endOf e)) ms none
     fits = fit-of (endOf e) ms none goods

@@ -46,7 +46,7 @@ returns-2 c =
     let g = push-gives (a .q) (a .e) (a .n) (u .result) (u .ensures) (ap refusal (c .before .before .before .before .before .enum-told .given .1)) in
     let l = u .result .logical in
     let us = storesBehind (a .e) (a .n) (a .last) l in
-    tells-same (c .before .before .push-new .result) o _ cs (spaceBehind (a .e) (a .last) l (length o)) ss us (behind-holds (length o) (a .q) (a .e) (a .n) (a .last) l (g .0) (g .1)) (ap (storesBehind (a .e) (a .n) (a .last)) (sym (g .1))) (c .before .before .push-new .ensures)
+    tells-same (c .before .before .push-new .result) o _ cs (spaceBehind (a .e) (a .n) (a .last) l (length o)) ss us (behind-holds (length o) (a .q) (a .e) (a .n) (a .last) l (g .0) (g .1)) (ap (storesBehind (a .e) (a .n) (a .last)) (sym (g .1))) (c .before .before .push-new .ensures)
 
 pub push-behind-spec : {M : Type 1} → statement M
 push-behind-spec =

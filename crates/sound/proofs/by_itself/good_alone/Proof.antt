@@ -1,5 +1,5 @@
 use mathlib.Core.Path.{sym, _∙_}
-use borrow.Author.Tests.{eq-eqb, ne-eqb, not-false, not-true}
+use borrow.Author.Tests.{not-false, not-true}
 use Rattle.sound.specs.Walk.{ownb}
 use borrow.Author.Needs.{needs}
 use Rattle.sound.proofs.by_itself.good_alone.Statement.{statement}
@@ -24,24 +24,15 @@ returns-2 c =
     let f₂ = sym (c .before .within-logical .ensures) ∙ not-true _ (c .if2 .taken) in
     rw (f₁, f₂)
 
-returns-3 : tie.Need-returns-3
-unfolding ownb
-returns-3 c =
-    let f₁ = sym (c .before .before .before .before .before .check .ensures) ∙ not-false _ (c .before .before .before .before .if1 .left) in
-    let f₂ = sym (c .before .before .before .within-logical .ensures) ∙ not-false _ (c .before .before .if2 .left) in
-    let f₃ = eq-eqb _ _ (c .if3 .taken) in
-    rw (f₁, f₂, f₃)
-
 is-extended-requires : tie.Need-is-extended-requires
 is-extended-requires c κs = search needs
 
-returns-4 : tie.Need-returns-4
+returns-3 : tie.Need-returns-3
 unfolding ownb
-returns-4 c =
-    let f₁ = sym (c .before .before .before .before .before .before .check .ensures) ∙ not-false _ (c .before .before .before .before .before .if1 .left) in
-    let f₂ = sym (c .before .before .before .before .within-logical .ensures) ∙ not-false _ (c .before .before .before .if2 .left) in
-    let f₃ = ne-eqb _ _ (c .before .if3 .left) in
-    rw (f₁, f₂, f₃, c .is-extended .ensures)
+returns-3 c =
+    let f₁ = sym (c .before .before .before .before .check .ensures) ∙ not-false _ (c .before .before .before .if1 .left) in
+    let f₂ = sym (c .before .before .within-logical .ensures) ∙ not-false _ (c .before .if2 .left) in
+    rw (f₁, f₂, c .is-extended .ensures)
 
 pub good-alone-spec : {M : Type 1} → statement M
 good-alone-spec =
@@ -51,6 +42,5 @@ good-alone-spec =
     returns
     within-logical-requires
     returns-2
-    returns-3
     is-extended-requires
-    returns-4)
+    returns-3)

@@ -14,14 +14,14 @@ returns c =
     let f₁ = sym (c .before .good-alone .ensures) ∙ not-true _ (c .if1 .taken) in
     rw (f₁)
 
-behind-ebr-requires : tie.Need-behind-ebr-requires
-behind-ebr-requires c κs = search needs
+in-place-requires : tie.Need-in-place-requires
+in-place-requires c κs = search needs
 
 returns-2 : tie.Need-returns-2
 unfolding standb
 returns-2 c =
     let f₁ = sym (c .before .before .before .good-alone .ensures) ∙ not-false _ (c .before .before .if1 .left) in
-    let f₂ = sym (c .before .behind-ebr .ensures) ∙ not-true _ (c .if2 .taken) in
+    let f₂ = sym (c .before .in-place .ensures) ∙ not-true _ (c .if2 .taken) in
     rw (f₁, f₂)
 
 good-turn-requires : tie.Need-good-turn-requires
@@ -31,7 +31,7 @@ returns-3 : tie.Need-returns-3
 unfolding standb
 returns-3 c =
     let f₁ = sym (c .before .before .before .before .good-alone .ensures) ∙ not-false _ (c .before .before .before .if1 .left) in
-    let f₂ = sym (c .before .before .behind-ebr .ensures) ∙ not-false _ (c .before .if2 .left) in
+    let f₂ = sym (c .before .before .in-place .ensures) ∙ not-false _ (c .before .if2 .left) in
     rw (f₁, f₂) (c .good-turn .ensures)
 
 pub stands-spec : {M : Type 1} → statement M
@@ -40,7 +40,7 @@ stands-spec =
     (tie.spec
     good-alone-requires
     returns
-    behind-ebr-requires
+    in-place-requires
     returns-2
     good-turn-requires
     returns-3)

@@ -6,14 +6,13 @@ use lib.Dec.{eqb}
 use lib.ListN.{length, take, drop, length-map}
 use borrow.Author.Needs.{needs}
 use borrow.Author.Tests.{not-true, not-false}
-use Rattle.sound.specs.Sound.{end}
 use Rattle.sound.specs.Walk.{rowsb}
 use Rattle.sound.proofs.Walk.{row-again, row-stop, row-end}
 use Rattle.sound_test.proofs.few.good_rows.Statement.{statement}
 use Rattle.sound_test.proofs.few.good_rows.Tie as tie
 use Rattle.sound_test.proofs.few.good_rows.Reads as reads
 use Rattle.sound_test.proofs.few.good_rows.Lts as lts
-use Rattle.sound.proofs.in_turn.end_of.Reads as end-of-reads
+use Rattle.sound.proofs.by_itself.ends_at.Reads as ends-at-reads
 use Rattle.sound.proofs.each.stands.Reads as stands-reads
 
 abbrev Inv-loop : tie.InvT-loop
@@ -23,7 +22,7 @@ Inv-loop from hi t n end₀ i₀ end i =
 abbrev μ-loop : tie.MeasureT-loop
 μ-loop from hi t n end₀ i₀ end i = n - i
 
-fits : (c : lts.Start (stands-reads.Asked, stands-reads.Learnt, end-of-reads.Asked, end-of-reads.Learnt) reads.Pre reads.Post Inv-loop μ-loop)
+fits : (c : lts.Start (stands-reads.Asked, stands-reads.Learnt, ends-at-reads.Asked, ends-at-reads.Learnt) reads.Pre reads.Post Inv-loop μ-loop)
     → c .args .t1 .count ≤ length (c .args .t1 .«logical_partitions»)
 fits c =
     let n = sym (length-map (c .args .t1 .«logical_partitions») _) ∙ c .good .0 .1 .1 .1 .1 .0 .1 .0 .1 in
@@ -48,8 +47,8 @@ returns c =
     let f = sym (c .before .stands .ensures) ∙ not-true _ (c .if1 .taken) in
     sym (l .inv .1 ∙ row-stop (s .args .hi) (s .args .t1 .count) (s .args .t1 .«logical_partitions») (fits s) (l .end) (l .i) (search needs) f)
 
-end-of-requires : tie.Need-end-of-requires Inv-loop μ-loop
-end-of-requires c κs = search needs
+ends-at-requires : tie.Need-ends-at-requires Inv-loop μ-loop
+ends-at-requires c κs = search needs
 
 add-i : tie.Need-add-i Inv-loop μ-loop
 add-i c = search needs
@@ -58,13 +57,12 @@ loop-less : tie.Need-loop-less Inv-loop μ-loop
 loop-less c = search needs
 
 loop-again : tie.Need-loop-again Inv-loop μ-loop
-unfolding end
 loop-again c =
-    let s = c .before .before .before .before .before .before .before in
-    let l = c .before .before .before .before .before .before .loop in
-    let f = sym (c .before .before .before .stands .ensures) ∙ not-false _ (c .before .before .if1 .left) in
+    let s = c .before .before .before .before .before .before in
+    let l = c .before .before .before .before .before .loop in
+    let f = sym (c .before .before .stands .ensures) ∙ not-false _ (c .before .if1 .left) in
     let w = l .inv .1 ∙ row-again (s .args .hi) (s .args .t1 .count) (s .args .t1 .«logical_partitions») (fits s) (l .end) (l .i) (search needs) f in
-    (search needs, rw (c .end-of .ensures) w)
+    (search needs, rw (c .ends-at .ensures) w)
 
 returns-2 : tie.Need-returns-2 Inv-loop μ-loop
 returns-2 c =
@@ -83,7 +81,7 @@ good-rows-spec =
     element-copy-out-l
     stands-requires
     returns
-    end-of-requires
+    ends-at-requires
     add-i
     loop-less
     loop-again

@@ -50,7 +50,8 @@ enum cv_refusal {
     CV_NO_LINK = 18,           /* a later logical partition lacks its link fields */
     CV_OUTPUT_SHORT = 19,      /* the lent output is too short */
     CV_NOT_SOUND = 20,         /* careful: the table is not sound */
-    CV_BEFORE_LAST = 21,       /* careful push starts before the last partition's end */
+    CV_BEFORE_LAST = 21,       /* careful push starts before the last partition's end, which for a first EBR without a
+                                * partition is the sector behind it */
     CV_TOO_MANY_RECORDS = 22,  /* one record more than CV_RECORDS */
     CV_BAD_REQUEST = 23,       /* careful push of type 0 or extended, or with more than 63 sectors in a geometry */
     /* none of the library's own: */
@@ -170,7 +171,8 @@ uint64_t cv_listing(const uint8_t *x, size_t x_length, uint8_t *out, size_t out_
 /* Careful push: the number of stores; 1 to 7 of reading, 20, 23, push's, 12, 21, 19. `track` is the geometry's sectors. */
 uint64_t cv_careful_push(const uint8_t *x, size_t x_length, uint32_t align, uint16_t cylinders, uint8_t heads,
                          uint8_t track, uint8_t type, uint32_t start, uint32_t sectors, uint8_t *out, size_t out_length);
-/* Careful removal of logical partition `number`, 5 and up: the number of stores; 1 to 7 of reading, 20, 17, 19. */
+/* Careful removal of logical partition `number`, 5 and up: the number of stores; 1 to 7 of reading, 20, 17, 19. A first EBR
+ * without a partition has number 5. */
 uint64_t cv_careful_remove(const uint8_t *x, size_t x_length, uint32_t number, uint8_t *out, size_t out_length);
 
 /* Tables as blocks: reading, push, removal. */
@@ -212,7 +214,8 @@ uint64_t cv_get_cylinder_size(const uint8_t *block, size_t block_length);
 
 /* Soundness. */
 
-/* Whether the table of a block is sound, 1 or 0; 101, 6, 102. */
+/* Whether the table of a block is sound, 1 or 0; 101, 6, 102. The first logical partition may be an EBR without a partition:
+ * type 0, the start its EBR's place, no sectors. */
 uint64_t cv_is_sound(const uint8_t *block, size_t block_length);
 
 /* Free runs as mbrman finds them, which is no truth about what is free. */

@@ -24,6 +24,9 @@ pub struct Request {
 /// before or the one after, provided that the medium stores the first 512 bytes of a sector whole or not at all. The
 /// stores are put one by one, each on the medium and read back before the next. Answers the table as it reads afterwards.
 ///
+/// Where the last partition is a first EBR without a partition, its end, before which no push may start (21), is the sector
+/// behind that EBR.
+///
 /// # Errors
 /// Reading's, 20, 23, push's, 12, 21, and then nothing was written. I/O: after a write that fails the sector's old bytes
 /// are put back, and the error says so if that fails too. What is on a medium that cannot be synced, or where a sector
@@ -36,7 +39,8 @@ where
     carry_out(medium, sector_size, |x| archive::careful_push(x, align, geometry, (sys, starting_lba, sectors)))
 }
 
-/// Removes the logical partition with a number, 5 and up, in the same way: one store.
+/// Removes the logical partition with a number, 5 and up, in the same way: one store. A first EBR without a partition has
+/// number 5.
 ///
 /// # Errors
 /// Reading's, 20, 17, and then nothing was written. I/O as in [`careful_push`].

@@ -146,7 +146,8 @@ impl MBR {
         Ok(archive::find_at_sector(&block::of_table(self), sector)?.map(|n| n as usize))
     }
 
-    /// Is the table sound: what the careful changes ask of the table on a disk?
+    /// Is the table sound: what the careful changes ask of the table on a disk? The first logical partition may be an EBR
+    /// without a partition: type 0, the start its EBR's place, no sectors.
     ///
     /// # Errors
     /// 6.

@@ -1,4 +1,5 @@
-/* Uses every function of include/crumbvessel.h on document 01's disk K and its numbers. Prints what fails. */
+/* Uses every function of include/crumbvessel.h on document 01's disk K and its numbers, and on K with a first EBR that has no
+ * partition. Prints what fails. */
 #include <stdio.h>
 #include <string.h>
 
@@ -161,6 +162,112 @@ static void careful_changes(void)
     IS(get32(out), 4096);
     IS(all(out + 4, 512, 0), true);
     IS(all(out + CV_STORE, CV_STORE, 7), true);
+}
+
+/* A store: its sector, and an EBR of a partition and a link, each its type, start and sectors. */
+static bool is_ebr(const uint8_t *s, uint32_t lba, uint8_t type, uint32_t start, uint32_t sectors, uint8_t link_type,
+                   uint32_t link_start, uint32_t link_sectors)
+{
+    uint8_t wanted[CV_STORE] = {0};
+    put32(wanted, lba);
+    entry(wanted + 4 + 446, type, start, sectors);
+    entry(wanted + 4 + 462, link_type, link_start, link_sectors);
+    memcpy(wanted + 4 + 510, "\x55\xAA", 2);
+    return memcmp(s, wanted, sizeof wanted) == 0;
+}
+
+/* Disk K with a first EBR that has no partition: a zone is put behind it, and either is removed. */
+static void careful_empty_first(void)
+{
+    static const char text[] = "disk 20480 align 4096 logical 1\n1 05 00 4096 16384\n";
+    static const char after[] = "disk 20480 align 4096 logical 2\n1 05 00 4096 16384\n6 83 00 8192 2048\n";
+    uint8_t e[sizeof k], out[CV_STORES], one[CV_EXTRACT(3)], two[CV_EXTRACT(3)], list[CV_LISTING];
+    memcpy(e, k, sizeof e);
+    memset(e + 544 + 446, 0, 16);
+    IS(cv_listing(e, sizeof e, list, sizeof list), sizeof text - 1);
+    IS(memcmp(list, text, sizeof text - 1), 0);
+    memset(out, 7, sizeof out);
+    IS(cv_careful_push(e, sizeof e, 2048, 0, 0, 0, 0x83, 4096, 4096, out, sizeof out), REFUSED(CV_BEFORE_LAST));
+    IS(cv_careful_push(e, sizeof e, 1, 0, 0, 0, 0x83, 4096, 2, out, sizeof out), REFUSED(CV_BEFORE_LAST));
+    IS(cv_careful_push(e, sizeof e, 1, 0, 0, 0, 0x83, 4097, 2, out, sizeof out - 1), REFUSED(CV_OUTPUT_SHORT));
+    IS(cv_careful_remove(e, sizeof e, 6, out, sizeof out), REFUSED(CV_NO_SUCH_LOGICAL));
+    IS(all(out, sizeof out, 7), true);
+    IS(cv_careful_push(e, sizeof e, 1, 0, 0, 0, 0x83, 4097, 2, out, sizeof out), 2);
+    IS(is_ebr(out, 4097, 0x83, 1, 1, 0, 0, 0), true);
+    IS(is_ebr(out + CV_STORE, 4096, 0, 0, 0, 0x05, 1, 2), true);
+    memset(out, 7, sizeof out);
+    IS(cv_careful_remove(e, sizeof e, 5, out, sizeof out), 1);
+    IS(get32(out), 4096);
+    IS(all(out + 4, 512, 0), true);
+    IS(all(out + CV_STORE, CV_STORE, 7), true);
+    IS(cv_careful_push(e, sizeof e, 2048, 0, 0, 0, 0x83, 4097, 4096, out, sizeof out), 2);
+    IS(is_ebr(out, 6144, 0x83, 2048, 2048, 0, 0, 0), true);
+    IS(is_ebr(out + CV_STORE, 4096, 0, 0, 0, 0x05, 2048, 4096), true);
+    IS(cv_lay_over(e, sizeof e, 6144, out + 4, 512, one, sizeof one), sizeof one);
+    IS(cv_lay_over(one, sizeof one, 4096, out + CV_STORE + 4, 512, two, sizeof two), sizeof two);
+    IS(cv_listing(two, sizeof two, list, sizeof list), sizeof after - 1);
+    IS(memcmp(list, after, sizeof after - 1), 0);
+    IS(cv_careful_remove(two, sizeof two, 5, out, sizeof out), 1);
+    IS(is_ebr(out, 4096, 0x83, 4096, 2048, 0, 0, 0), true);
+    IS(cv_careful_remove(two, sizeof two, 6, out, sizeof out), 1);
+    IS(is_ebr(out, 4096, 0, 0, 0, 0, 0, 0), true);
+    /* a first entry of type 0 with a start or with sectors, and a later one, are not sound */
+    for (int at = 454; at < 462; at += 4) {
+        put32(e + 544 + at, 1);
+        IS(cv_careful_push(e, sizeof e, 2048, 0, 0, 0, 0x83, 8192, 4096, out, sizeof out), REFUSED(CV_NOT_SOUND));
+        IS(cv_careful_remove(e, sizeof e, 5, out, sizeof out), REFUSED(CV_NOT_SOUND));
+        put32(e + 544 + at, 0);
+    }
+    memset(two + 36 + 1024 + 446, 0, 16);
+    IS(get32(two + 32), 6144);
+    IS(cv_careful_remove(two, sizeof two, 5, out, sizeof out), REFUSED(CV_NOT_SOUND));
+}
+
+/* The test for a sound table, K's with a first entry that is empty. */
+static void sound_empty_first(void)
+{
+    static uint8_t t[CV_BLOCK];
+    uint8_t *first = t + CV_LOGICAL(0);
+    IS(cv_read(k, sizeof k, t, sizeof t), CV_DONE);
+    first[CV_ENTRY_TYPE] = 0;
+    IS(cv_is_sound(t, sizeof t), 0);
+    put32(first + CV_ENTRY_SECTORS, 0);
+    IS(cv_is_sound(t, sizeof t), 0);
+    put32(first + CV_ENTRY_START, 4096);
+    IS(cv_is_sound(t, sizeof t), 1);
+    put32(first + CV_ENTRY_SECTORS, 1);
+    IS(cv_is_sound(t, sizeof t), 0);
+    put32(first + CV_ENTRY_SECTORS, 0);
+    first[CV_ENTRY_TYPE] = 0x83;
+    IS(cv_is_sound(t, sizeof t), 0);
+    first[CV_ENTRY_TYPE] = 0;
+    first[0] = 0x80;
+    IS(cv_is_sound(t, sizeof t), 1);
+    first[0] = 1;
+    IS(cv_is_sound(t, sizeof t), 0);
+    first[0] = 0;
+    first[CV_ENTRY_LAST + 3] = 63;
+    IS(cv_is_sound(t, sizeof t), 1);
+    first[CV_ENTRY_LAST + 3] = 64;
+    IS(cv_is_sound(t, sizeof t), 0);
+    first[CV_ENTRY_LAST + 3] = 0;
+    put32(first + CV_EBR_LBA, 4097);
+    put32(first + CV_ENTRY_START, 4097);
+    IS(cv_is_sound(t, sizeof t), 0);
+    put32(first + CV_EBR_LBA, 4096);
+    put32(first + CV_ENTRY_START, 4096);
+    put32(t + CV_PRIMARY(0) + CV_ENTRY_SECTORS, 1);
+    IS(cv_is_sound(t, sizeof t), 1);
+    put32(t + CV_PRIMARY(0) + CV_ENTRY_SECTORS, 16384);
+    /* an unused slot is no empty first entry, and a later one is none either */
+    t[CV_COUNT] = 2;
+    IS(cv_is_sound(t, sizeof t), 0);
+    memcpy(t + CV_LOGICAL(1), first, CV_SLOT);
+    IS(cv_is_sound(t, sizeof t), 0);
+    t[CV_COUNT] = 1;
+    IS(cv_is_sound(t, sizeof t), 1);
+    memset(first, 0, CV_SLOT);
+    IS(cv_is_sound(t, sizeof t), 0);
 }
 
 static void tables(void)
@@ -524,6 +631,8 @@ int main(void)
     extracts();
     careful_refusals();
     careful_changes();
+    careful_empty_first();
+    sound_empty_first();
     tables();
     tags();
     table_refusals();

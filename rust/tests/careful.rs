@@ -1,13 +1,15 @@
 //! Careful changes of a disk that notes every read, write and flush, and that fails when told to.
 
 mod common;
-use common::{disk_k, listing, noted_k, table_k, Event};
+use common::{disk_k, entry, listing, logical, noted_empty, noted_k, table_k, Event};
 
 use crumbvessel::{careful_push, careful_remove, Error, Medium, Request, MBR};
 
 const BEFORE: &str = "disk 20480 align 2048 logical 1\n1 05 00 4096 16384\n5 83 00 6144 2048\n";
 const AFTER: &str = "disk 20480 align 2048 logical 2\n1 05 00 4096 16384\n5 83 00 6144 2048\n6 83 00 10240 2048\n";
 const NONE: &str = "disk 20480 align 4096 logical 0\n1 05 00 4096 16384\n";
+const EMPTY: &str = "disk 20480 align 4096 logical 1\n1 05 00 4096 16384\n";
+const BEHIND: &str = "disk 20480 align 4096 logical 2\n1 05 00 4096 16384\n6 83 00 8192 2048\n";
 
 fn request(starting_lba: u32, sectors: u32) -> Request {
     Request { align: 2048, geometry: (0, 0, 0), sys: 0x83, starting_lba, sectors }
@@ -36,6 +38,79 @@ fn a_removal_is_one_store() {
     assert_eq!(listing(&mut disk, 512), NONE);
     let again = careful_push(&mut disk, 512, &request(4096, 4096)).unwrap();
     assert_eq!(again.logical_partitions, table_k().logical_partitions);
+}
+
+#[test]
+fn an_empty_first_ebr_is_sound() {
+    let table = MBR::read_from(&mut noted_empty(), 512).unwrap();
+    assert_eq!((table.len(), &table[5]), (5, &entry(0, 4096, 0)));
+    assert!(table.is_sound().unwrap());
+    for wrong in [entry(0, 4097, 0), entry(0, 4096, 1), entry(0x83, 4096, 0), entry(0, 6144, 2048)] {
+        let mut other = table.clone();
+        other[5] = wrong;
+        assert!(!other.is_sound().unwrap());
+    }
+    let mut two = table.clone();
+    two.logical_partitions.push(logical(4097, 4098, 1, Some(2)));
+    assert!(two.is_sound().unwrap());
+    // The end of an empty first one is the sector behind its EBR.
+    two.logical_partitions[1] = logical(4096, 4098, 1, Some(3));
+    assert!(!two.is_sound().unwrap());
+    // A later one of type 0 is not sound.
+    two.logical_partitions[1] = logical(4097, 4097, 0, Some(2));
+    two[6].sys = 0;
+    assert!(!two.is_sound().unwrap());
+}
+
+#[test]
+fn a_push_goes_behind_an_empty_first_ebr() {
+    let mut disk = noted_empty();
+    for (align, start, sectors) in [(2048, 4096, 4096), (1, 4096, 2)] {
+        let at_x = Request { align, ..request(start, sectors) };
+        assert_eq!(careful_push(&mut disk, 512, &at_x).unwrap_err().number(), 21);
+    }
+    assert_eq!(disk.changes(), []);
+    let next = Request { align: 1, ..request(4097, 2) };
+    let table = careful_push(&mut noted_empty(), 512, &next).unwrap();
+    assert_eq!(table.logical_partitions[1], logical(4097, 4098, 1, Some(2)));
+    let table = careful_push(&mut disk, 512, &request(4097, 4096)).unwrap();
+    assert_eq!((&table[5], &table[6]), (&entry(0, 4096, 0), &entry(0x83, 8192, 2048)));
+    let (new, first) = (6144 * 512, 4096 * 512);
+    assert_eq!(disk.changes(), [Event::Write(new, 512), Event::Sync, Event::Write(first, 512), Event::Sync]);
+    assert_eq!(listing(&mut disk, 512), BEHIND);
+    for which in 1..=2 {
+        for stored in [0, 1, 100, 447, 511] {
+            let mut disk = noted_empty();
+            disk.fails = Some((which, stored));
+            assert!(careful_push(&mut disk, 512, &request(4097, 4096)).is_err());
+            assert_eq!(listing(&mut disk, 512), EMPTY);
+        }
+    }
+}
+
+#[test]
+fn an_empty_first_ebr_is_removed_as_number_5() {
+    let mut disk = noted_empty();
+    assert_eq!(careful_remove(&mut disk, 512, 6).unwrap_err().number(), 17);
+    assert_eq!(careful_remove(&mut disk, 512, 5).unwrap().logical_partitions, []);
+    assert_eq!(disk.changes(), [Event::Write(4096 * 512, 512), Event::Sync]);
+    assert_eq!(listing(&mut disk, 512), NONE);
+    let behind = || {
+        let mut disk = noted_empty();
+        careful_push(&mut disk, 512, &request(4097, 4096)).unwrap();
+        disk.events.clear();
+        disk
+    };
+    // The zone takes its place, where it stands.
+    let mut disk = behind();
+    assert_eq!(careful_remove(&mut disk, 512, 5).unwrap().logical_partitions, [logical(4096, 8192, 2048, None)]);
+    assert_eq!(disk.changes(), [Event::Write(4096 * 512, 512), Event::Sync]);
+    assert_eq!(listing(&mut disk, 512), "disk 20480 align 4096 logical 1\n1 05 00 4096 16384\n5 83 00 8192 2048\n");
+    // The zone is removed, and the empty first EBR stays, without a link.
+    let mut disk = behind();
+    assert!(careful_remove(&mut disk, 512, 6).unwrap().is_sound().unwrap());
+    assert_eq!(disk.changes(), [Event::Write(4096 * 512, 512), Event::Sync]);
+    assert_eq!(listing(&mut disk, 512), EMPTY);
 }
 
 #[test]

@@ -64,8 +64,17 @@ pub fn disk_k(sector_size: usize) -> Cursor<Vec<u8>> {
 
 /// Disk K as a disk that notes.
 pub fn noted_k() -> Noted {
+    noted(records_k())
+}
+
+/// Disk K with a first EBR that has no partition.
+pub fn noted_empty() -> Noted {
+    noted([(0, record(0x05, 4096, 16384)), (4096, record(0, 0, 0))])
+}
+
+fn noted<const N: usize>(records: [(usize, Record); N]) -> Noted {
     let mut disk = Noted::new(20480 * 512);
-    for (lba, record) in records_k() {
+    for (lba, record) in records {
         disk.bytes.extend((512 * lba as u64..).zip(record));
     }
     disk

@@ -116,19 +116,20 @@ fn gap(rng: &mut Rng, align: u32) -> u64 {
     u64::from(if rng.one_in(2) { 0 } else { align * rng.below(4) })
 }
 
-/// The logical partitions of an extended partition at X, and its end.
+/// The logical partitions of an extended partition at X, and its end. Now and then the first is an EBR without a partition.
 fn chain(rng: &mut Rng, x: u64, n: u32, align: u32) -> (Vec<LogicalPartition>, u64) {
     let mut found = Vec::new();
     let mut at = x;
     for k in 0..n {
-        let start = at + if rng.one_in(4) { 1 } else { u64::from(align) };
-        let end = start + size(rng, align);
-        let link = end - at + gap(rng, align);
+        let empty = k == 0 && rng.one_in(5);
+        let start = at + if empty { 0 } else if rng.one_in(4) { 1 } else { u64::from(align) };
+        let end = start + if empty { 0 } else { size(rng, align) };
+        let link = (end - at).max(1) + gap(rng, align);
         let last = rng.chs();
         let mut bootstrap_code = [0; 446];
         bootstrap_code.copy_from_slice(&text::code(rng.of(&[0, 0, k + 1, 255]), 446));
         found.push(LogicalPartition {
-            partition: entry(rng, 0x83, start as u32, (end - start) as u32),
+            partition: entry(rng, if empty { 0 } else { 0x83 }, start as u32, (end - start) as u32),
             absolute_ebr_lba: at as u32,
             ebr_sectors: (k > 0).then_some(link as u32),
             ebr_first_chs: rng.chs(),

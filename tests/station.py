@@ -2,7 +2,7 @@
 
 SFDISK and STRACE may be empty. With quick there are fewer images, which takes some seconds.
 
-Images with 1 to 24 logical partitions are made by sfdisk, images of every sector size by the second program. Each change is
+Images with 0 to 24 logical partitions are made by sfdisk, images of every sector size by the second program. Each change is
 carried out whole, and then again and again with the program stopped before and after each call that writes, and with calls
 that fail or are cut short: from one on, one alone, and one with the program stopped right after it. Each time the image must
 read as the table before or the table after: by the program's own list, by the second program and, where it made the image,
@@ -321,17 +321,30 @@ def from_sfdisk(folder, n):
 
 
 def with_sfdisk(folder):
-    for n in (1, 2, 24) if QUICK else range(1, 25):
+    for n in (0, 1, 2, 24) if QUICK else range(25):
         progress(f"station: image {n} of 24 made by sfdisk, {counts['stops']} stops")
         image = from_sfdisk(folder, n)
-        if f"logical {n}\n" not in image.listed():
+        # Without zones sfdisk leaves a first EBR without a partition, which is counted.
+        if f"logical {n or 1}\n" not in image.listed():
             fail("all logical partitions of sfdisk's image are listed", n, image.listed())
-        end = 8192 + 4096 * n
+        end = 8192 + (4096 * n or 2048)
         push(image, (2048, m.Geometry(0, 0, 0), 0x83, end, 6144), True)
         push(image, (2048, m.Geometry(1023, 255, 63), 0x07, end + 2048, 6144), True)
         for number in sorted({5, 5 + n // 2, 4 + n}):
             remove(image, number, True)
+        if n == 0:
+            behind_empty(image)
         os.unlink(image.path)
+
+
+def behind_empty(image):
+    """A push over a first EBR without a partition, which is refused. A zone put behind it; then another, and either removed."""
+    push(image, (2048, m.Geometry(0, 0, 0), 0x83, 8192, 4096), True)
+    for lba, record in m.careful_push(image.extract(), 2048, m.Geometry(0, 0, 0), 0x83, 10240, 4096, bytearray(1032)).stores:
+        image.put(lba, record)
+    push(image, (2048, m.Geometry(0, 0, 0), 0x83, 14336, 4096), True)
+    for number in (5, 6):
+        remove(image, number, True)
 
 
 def from_second(folder, rng):

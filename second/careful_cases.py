@@ -6,7 +6,7 @@ import model as m
 from cases import BIG, HIGHEST, MOST, case, note, part
 from disk_k import disk_k
 from model import CHS, EBR, Entry
-from read_cases import chain, chained, changed, coded, damaged, disk, records_of, with_header
+from read_cases import chain, chained, changed, code, coded, damaged, disk, records_of, with_header
 
 UNSET = (0, 0, 0)
 FULL = (1023, 255, 63)
@@ -74,6 +74,34 @@ def small(disk_size, sectors, *ebrs):
 def primaries(*entries, disk_size=30000):
     """A chain of two and these entries beside the extended one."""
     return chained(records_of(links(2)), disk_size=disk_size, extended=SPACE, more=entries)
+
+
+WIDE = replace(SPACE, starting_lba=4096, sectors=32768)
+
+
+def zones(*places, extended=WIDE, size=512):
+    """A disk with zones: of each the place of its EBR, its start and its sectors; without sectors the EBR is an empty first one.
+    Codes, flags, addresses and links tell one from the other."""
+    records = {}
+    for k, (place, start, sectors) in enumerate(places):
+        link = m.NO_ENTRY
+        if k + 1 < len(places):
+            there, first, length = places[k + 1]
+            link = Entry(0x80, CHS(k + 1, k, 1), 0x85, CHS(k + 1, k, 63), there - extended.starting_lba,
+                         first + length - there + k % 3)
+        partition = Entry(0x80 * (k % 2), CHS(k, 1, 1), 0x83 if sectors else 0, CHS(k, 2, 2), start - place, sectors)
+        records[place] = m.ebr_bytes(EBR(code(k + 1), partition, link))
+    return chained(records, disk_size=extended.end + 4096, extended=extended, size=size, more=(part(0x83, 1, 60, 0x80),))
+
+
+def without(x, *numbers):
+    """The disk after careful removals of these numbers; the EBR of a zone that was not the first is still a record."""
+    for number in numbers:
+        disk = m.extract_disk(x)
+        for lba, record in m.careful_removal(x, number, bytearray(m.STORES)).stores:
+            disk.records[lba] = record
+        x = m.extract_bytes(disk)
+    return x
 
 
 # Each breaks one rule of a sound table, in document 01's order; what breaks signature or flags is not read at all.
@@ -376,6 +404,162 @@ def empty_first_cases():
     remove(5)
 
 
+# ---------------------------------------------------------------- gaps
+
+FIRST, MIDDLE, LAST = (4096, 6144, 2048), (8192, 10240, 6144), (16384, 18432, 2048)
+BEHIND = (26624, 28672, 2048)
+# EBRs, starts and ends at uneven places, with room between an EBR and its partition and between two zones.
+UNEVEN = ((4096, 4100, 7), (4120, 4121, 1), (4124, 4130, 10), (4140, 4145, 5))
+VACANT = (4096, 4096, 0)
+
+
+def row(n):
+    """So many zones with room behind each."""
+    return [(4096 + 1000 * k, 4101 + 1000 * k, 500) for k in range(n)]
+
+
+def around(x):
+    """Pushes at alignment 1 of two sectors on both sides of every EBR, start and end, and of about all that is left between an end
+    and the next EBR or the extended partition's end."""
+    t = m.read_table(x)
+    limits = [l.absolute_ebr_lba for l in t.logicals[1:]] + [t.header.extended().end]
+    ends = [m.end_of(t.logicals, at) for at in range(len(t.logicals))]
+    places = {*ends, *(place for l in t.logicals for place in (l.absolute_ebr_lba, l.partition.starting_lba))}
+    for start in sorted({place + more for place in places for more in (-1, 0, 1)}):
+        push(start, 2, align=1)
+    for end, limit in zip(ends, limits):
+        for start, sectors in ((end, limit - end), (end, limit - end + 1), (limit - 2, 2), (limit - 2, 3)):
+            push(start, max(sectors, 2), align=1)
+
+
+def removed_zone_cases():
+    note("careful push: three zones, the middle one removed")
+    near.lend(zones(FIRST, LAST))
+    for start in (8192, 8191, 6145, 6144, 8193, 10240, 12288, 14336, 16384, 18432, 20480, 4096, 2048):
+        push(start, 4096)
+    for start, sectors in ((8192, 8192), (8192, 8191), (8192, 8193), (10240, 6144), (10240, 6145), (12288, 4097), (14336, 2048),
+                           (4096, 8192), (2048, 16384), (8192, 28672), (8192, 28673), (4096, 32768), (4096, 32769), (32769, 4096),
+                           (0, 4096), (8192, 0)):
+        push(start, sectors)
+    for start in (4095, 4096, 4097, 5000, 6143, 6144, 7000, 8191, 8192, 16382, 16383, 16384, 16385, 18431, 18432, 19000, 20479, 20480):
+        push(start, 2, align=1)
+    for start, sectors in ((8192, 8192), (8192, 8193), (8191, 8193), (8192, 1), (16382, 3), (4095, 32769), (12000, 500),
+                           (12000, 4384), (12000, 4385), (7000, 10000)):
+        push(start, sectors, align=1)
+    for align in (2, 63, 1000, 4096, 8191, 8192):
+        for start in (8191, 8192, 8193):
+            push(start, 2 * align, align=align)
+    near.lend(without(zones(FIRST, MIDDLE, LAST), 6))
+    for start, sectors in ((8192, 8192), (8192, 8193), (8191, 4096), (6144, 4096), (10240, 6144), (12288, 4096), (14336, 4096)):
+        push(start, sectors)
+    note("careful push: of three zones the first, the last, and two of them removed")
+    for numbers in ((5,), (7,), (5, 5), (6, 5), (6, 6), (7, 6)):
+        near.lend(without(zones(FIRST, MIDDLE, LAST), *numbers))
+        for start in (4096, 6144, 8192, 12288, 16384, 18432):
+            push(start, 4096)
+        push(8192, 8192)
+        push(8192, 8193)
+
+
+def gap_cases():
+    note("careful push: both sides of every EBR, start and end")
+    for x in (zones(*UNEVEN), zones(VACANT, *UNEVEN[1:])):
+        near.lend(x)
+        around(x)
+    note("careful push: two gaps, of which the second fits")
+    near.lend(zones(FIRST, (12288, 14336, 2048), (22528, 24576, 2048)))
+    for start in (8192, 16384, 26624):
+        for sectors in (4096, 4097, 6144, 6145):
+            push(start, sectors)
+    note("careful push: a gap of exactly double the alignment, and one sector less")
+    for align in (1, 2, 63, 1024, 2048):
+        for less in (0, 1):
+            place = 8192 // align * align
+            near.lend(zones((4096, 4097, place - 4097), (place + 2 * align - less, place + 2 * align + 5, 7)))
+            for start in (place - 1, place, place + 1):
+                push(start, 2 * align, align=align)
+            push(place, 2 * align + 1, align=align)
+    note("careful push: a gap that rounding the start leaves too small")
+    near.lend(zones((4096, 4097, 4000), (12200, 12300, 50)))
+    for align in (2, 63, 100, 1000, 2000, 2048, 4096):
+        for start in (8096, 8097, 8098, 10000):
+            push(start, 2 * align, align=align)
+    note("careful push: between an empty first EBR and the second")
+    for second in (LAST, (4099, 4100, 5), (4098, 4100, 5), (4097, 4100, 5)):
+        near.lend(zones(VACANT, second))
+        for start in (4095, 4096, 4097, 4098, 16382, 16383, 16384):
+            push(start, 2, align=1)
+        for sectors in (3, 12287, 12288):
+            push(4097, sectors, align=1)
+        for start, sectors in ((4096, 4096), (4097, 4096), (6144, 10240), (6144, 10241), (12288, 4096), (14336, 4096)):
+            push(start, sectors)
+        push(6144, 10240, geometry=FULL)
+    note("careful push: many zones with holes")
+    for n in (MOST - 1, MOST):
+        near.lend(zones(*row(n)))
+        for k in (0, 1, n // 2, n - 2, n - 1):
+            for start, sectors in ((4601, 495), (4601, 496), (4600, 2), (4700, 300), (5095, 2), (5096, 2)):
+                push(1000 * k + start, sectors, align=1)
+        push(4601, 40000, align=1)
+        push(4601, 495, align=1, room=1031)
+    near.lend(without(zones(*row(MOST)), *range(6, 4 + MOST // 2)))
+    for k in (1, 2, MOST - 3, MOST - 1):
+        for sectors in (600, 1000, 1001):
+            push(4096 + 1000 * k, sectors, align=1)
+
+
+def gap_refusal_cases():
+    note("careful push: into a gap, refusals together and their order")
+    near.lend(zones(FIRST, LAST))
+    for geometry in (UNSET, FULL, (1, 16, 63), (12, 16, 63), (20, 16, 63), (1023, 1, 8), (1023, 255, 64), (1024, 255, 63)):
+        for start, sectors in ((8192, 4096), (8192, 8193), (6144, 4096), (16384, 4096)):
+            push(start, sectors, geometry=geometry)
+        push(8192, 4096, geometry=geometry, room=1031)
+        push(6144, 4096, geometry=geometry, room=1031)
+    for sys in (0, 0x05, 0x85, 0x07):
+        push(6144, 4096, sys)
+        push(8192, 4096, sys)
+    for room in (0, m.STORE, m.STORES - 1, m.STORES, m.STORES + 1):
+        push(8192, 4096, room=room)
+        push(8192, 8193, room=room)
+    near.lend(zones(*row(MOST)))
+    for geometry in (UNSET, (1, 16, 63)):
+        for start, sectors in ((4601, 495), (4601, 496), (4096, 2), (4095, 2), (36863, 2), (4601, 40000)):
+            push(start, sectors, align=1, geometry=geometry)
+
+
+def gap_field_cases():
+    note("careful push: into a gap, every type of extended entry, every sector size")
+    for kind in m.EXTENDED_TYPES:
+        for size in m.SECTOR_SIZES:
+            near.lend(zones(FIRST, LAST, BEHIND, extended=replace(WIDE, sys=kind), size=size))
+            push(8192, 8192, 0x07)
+            push(20480, 6144, 0x07, geometry=(500, 16, 63))
+    note("careful push: into a gap, further bytes and any link behind it")
+    x = m.extract_disk(zones(FIRST, LAST, BEHIND))
+    for lba in (4096, 16384, 26624):
+        x.records[lba] = damaged(x.records[lba], 478, "ff" * 32)
+    near.lend(m.extract_bytes(x))
+    for start in (8192, 20480, 30720):
+        push(start, 4096)
+    for at, text in ((462, "00"), (466, "00"), (466, "0f"), (463, "ffffff"), (467, "ffffff"), (463, "000000"), (474, "00500000"),
+                     (474, "01100000")):
+        near.lend(m.extract_bytes(replace(x, records={**x.records, 4096: damaged(x.records[4096], at, text)})))
+        push(8192, 4096)
+        push(20480, 4096)
+        push(6144, 4096)
+    note("careful push: into a gap at the highest places")
+    high = BIG - 100
+    first = EBR(code(1), part(0x83, 5, 5), part(0x05, 90, 10))
+    last = EBR(code(2), part(0x83, 1, 9), m.NO_ENTRY)
+    near.lend(chained({high: m.ebr_bytes(first), high + 90: m.ebr_bytes(last)}, disk_size=BIG, extended=part(0x05, high, 100)))
+    for more in (0, 9, 10, 11, 88, 89, 98, 99):
+        for sectors in (2, 80, 81, 91, BIG):
+            push(high + more, sectors, align=1)
+        push(high + more, 4, align=2)
+        push(high + more, 30, align=15)
+
+
 def seeded_cases():
     note("careful changes: seeded")
     rng = c.Seeded(909)
@@ -406,7 +590,33 @@ def seeded_cases():
             remove(number)
 
 
+def seeded_gap_cases():
+    note("careful changes: seeded, with gaps")
+    rng = c.Seeded(910)
+    for _ in range(16):
+        start, at, places = rng.of((63, 2048, rng.below(10 ** 6) + 1)), 0, []
+        for k in range(rng.between(2, 9)):
+            first = at if k == 0 and rng.below(3) == 0 else at + rng.between(1, 20)
+            length = rng.between(1, 60) if first > at else 0
+            places.append((start + at, start + first, length))
+            at = max(first + length, at + 1) + rng.of((0, 2, rng.below(300), rng.below(300)))
+        extended = replace(c.seeded_entry(rng), sys=rng.of(m.EXTENDED_TYPES), starting_lba=start, sectors=at + rng.below(200))
+        x = zones(*places, extended=extended, size=512 << rng.below(4))
+        near.lend(x)
+        t = m.read_table(x)
+        for _ in range(8):
+            align = rng.of((1, 1, 1, 2, 7, 63))
+            behind = rng.below(len(places))
+            low = m.end_of(t.logicals, behind)
+            high = places[behind + 1][0] if behind + 1 < len(places) else extended.end
+            room = max(high - low, 1)
+            sectors = rng.of((2 * align, 3 * align, room, room // align * align or 1, rng.between(1, 200)))
+            push(low + rng.of((0, 0, 1, rng.below(room))), sectors, align=align, geometry=rng.of((UNSET, FULL, (500, 16, 63))))
+        remove(5 + rng.below(len(places)))
+
+
 if __name__ == "__main__":
-    for section in (number_cases, place_cases, refusal_cases, removal_cases, empty_first_cases, seeded_cases):
+    for section in (number_cases, place_cases, refusal_cases, removal_cases, empty_first_cases, removed_zone_cases, gap_cases,
+                    gap_refusal_cases, gap_field_cases, seeded_cases, seeded_gap_cases):
         section()
     print("\n".join(c.lines))

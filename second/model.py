@@ -1,4 +1,4 @@
-"""Document 01, changed as request 3 of document 02 asks, as a plain program in exact integers.
+"""Document 01, changed as requests 2 and 3 of document 02 ask, as a plain program in exact integers.
 
 Written from the documents and the crate's source alone; it shares nothing with the proved
 crates or their definitions. A refusal is the exception Refusal with document 01's number.
@@ -841,6 +841,24 @@ def put_stores(stores: List[Tuple[int, bytes]], out: bytearray) -> None:
     out[:len(made)] = made
 
 
+def place_in_order(logicals: Tuple[Logical, ...], new: Logical) -> int:
+    """Request 2: the index that a new logical partition gets; so many EBRs are at or below its own."""
+    return sum(l.absolute_ebr_lba <= new.absolute_ebr_lba for l in logicals)
+
+
+def in_gap(logicals: Tuple[Logical, ...], at: int, new: Logical) -> bool:
+    """Does a new one at this index start at or after the end of the one before it, and end by the EBR of the one behind?"""
+    starts = at > 0 and end_of(logicals, at - 1) <= new.absolute_ebr_lba
+    ends = at == len(logicals) or new.partition.end <= logicals[at].absolute_ebr_lba
+    return starts and ends
+
+
+def moved(t: Table, at: int) -> Table:
+    """The table with its last logical partition taken out and put in at this index."""
+    *others, last = t.logicals
+    return replace(t, logicals=(*others[:at], last, *others[at:]))
+
+
 def careful_push(x: bytes, align: int, geometry: Geometry, sys: int, start: int, sectors: int,
                  out: bytearray) -> Careful:
     t = read_table(x)
@@ -851,17 +869,16 @@ def careful_push(x: bytes, align: int, geometry: Geometry, sys: int, start: int,
         raise Refusal(23)
     t = replace(t, align=align, cylinders=geometry.cylinders, heads=geometry.heads, sectors=geometry.sectors)
     after = push(t, sys, start, sectors).table
-    extended = t.header.extended()
     new = after.logicals[-1]
-    if not t.logicals and new.partition.end > extended.end:
+    if not t.logicals and new.partition.end > t.header.extended().end:
         raise Refusal(12)
-    if t.logicals and new.absolute_ebr_lba < end_of(t.logicals, len(t.logicals) - 1):
+    at = place_in_order(t.logicals, new)
+    if t.logicals and not in_gap(t.logicals, at, new):
         raise Refusal(21)
-    after = first_placed(after)
-    last = len(after.logicals) - 1
-    stores = [record_at(after, last)]
-    if last > 0:
-        stores.append(record_at(after, last - 1))
+    after = first_placed(moved(after, at))
+    stores = [record_at(after, at)]
+    if at > 0:
+        stores.append(record_at(after, at - 1))
     put_stores(stores, out)
     return Careful(after, stores)
 

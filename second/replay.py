@@ -2,13 +2,14 @@
 
 python3 replay.py [DISKS] generates so many disks. The stores are taken from the lent output's bytes. What a disk must read
 as and what a record must hold are worked out here in whole numbers, from document 01 and the disk before, and not by the
-functions of model.py that make the stores. Before that, faults that are planted into good answers must each be noticed;
-with -v behind the number the rules are named by which they were.
+functions of model.py that make the stores. At least a third of the pushes go into a gap, with a partition behind them. Before
+that, faults that are planted into good answers, and into the rules for a gap, must each be noticed; with -v behind the number
+the rules are named by which they were.
 """
 import random
 import sys
 from dataclasses import replace
-from functools import lru_cache
+from functools import lru_cache, partial
 
 import model as m
 from model import CHS, EBR, Entry, Geometry, Refusal
@@ -59,7 +60,8 @@ def gap(rng):
 
 def chain_places(rng, start, n):
     """EBR place, partition start and sectors of each of n logicals, and the least end. Often the first is empty: no sectors,
-    and the start is its EBR's place."""
+    and the start is its EBR's place. Often there is room between two, as where a zone was removed."""
+    holes = rng.random() < 0.5
     places, at, least = [], start, start + 1
     for k in range(n):
         if k == 0 and rng.random() < 0.4:
@@ -70,6 +72,8 @@ def chain_places(rng, start, n):
             places.append((at, first, length))
             least = first + length
         at = least + gap(rng)
+        if holes and rng.random() < 0.5:
+            at += rng.choice((2, 4, 126, 4096, rng.randrange(2, 20000)))
     return places, least
 
 
@@ -147,12 +151,22 @@ def sound_disk(rng):
 # ---------------------------------------------------------------- requests
 
 
-def any_push(rng, t):
-    """Alignment, geometry, type, start and sectors: often near what fits."""
+def rooms(t):
+    """Where there may be room for a new EBR and its partition: from one end to the next EBR, and behind the last one."""
     extended = t.header.extended()
-    low = t.logicals[-1].partition.end if t.logicals else extended.starting_lba if extended else 0
-    high = extended.end if extended else t.disk_size
+    if not extended:
+        return [(0, t.disk_size)]
+    ends = [l.partition.end + (l.partition.sys == 0) for l in t.logicals]
+    places = [l.absolute_ebr_lba for l in t.logicals[1:]]
+    return list(zip(ends or [extended.starting_lba], [*places, extended.end]))
+
+
+def any_push(rng, t):
+    """Alignment, geometry, type, start and sectors: often near what fits, and often in a gap, where there is one."""
     align = rng.choice((1, 1, 1, 2, 7, 63, rng.choice((2048, rng.randrange(5000)))))
+    *gaps, last = rooms(t)
+    large = [(low, high) for low, high in gaps if up(low, align or 1) + 2 * align <= high]
+    low, high = rng.choice(large or gaps) if gaps and rng.random() < 0.75 else last
     room = max(0, high - low)
     start = low + rng.choice((0, 0, 1, rng.randrange(room + 1), rng.randrange(room + 1), room // 2, room - 2 * align))
     start -= rng.choice((0, 0, 0, 0, 1, align))
@@ -187,6 +201,15 @@ def cylinder(g, lba):
     return lba // (g.heads * g.sectors)
 
 
+def is_free(t, place, end):
+    """Request 2's own words: the new EBR and its partition overlap no partition and no EBR, and do not stand before the first
+    or between an EBR and its own partition."""
+    overlaps = any(place <= l.absolute_ebr_lba < end or (place < l.partition.end and l.partition.starting_lba < end)
+                   for l in t.logicals)
+    between = any(l.absolute_ebr_lba < place < l.partition.starting_lba for l in t.logicals)
+    return not overlaps and not between and (not t.logicals or place > t.logicals[0].absolute_ebr_lba)
+
+
 def push_holds(t, align, geometry, sys, start, sectors):
     """Whether a careful push of a sound table is to be accepted: every condition at once, in whole numbers."""
     extended = t.header.extended()
@@ -196,8 +219,7 @@ def push_holds(t, align, geometry, sys, start, sectors):
         return False
     place, first, end = new_place(align, start, sectors)
     fits = (extended.starting_lba <= place <= extended.end - 2 * align and end <= extended.end
-            and end - place >= 2 * align and all(place >= l.partition.end for l in t.logicals)
-            and (place > extended.starting_lba or not t.logicals))
+            and end - place >= 2 * align and is_free(t, place, end))
     if not fits or not 0 < geometry.cylinders <= 1023 or geometry.heads == 0 or geometry.sectors == 0:
         return fits
     if geometry.sectors > 63:
@@ -277,17 +299,19 @@ TAIL = bytes(32) + b"\x55\xaa"
 
 
 def push_records(disk, t, wanted, align, sys, start, sectors):
-    """The stores of a push: a new EBR, then the former last, with its own first 462 bytes."""
+    """The stores of a push: a new EBR with its link to what follows, then the one before, with its own first 462 bytes."""
     extended = t.header.extended()
     place, first, end = new_place(align, start, sectors)
-    new = wanted.logicals[-1]
+    before = [l for l in t.logicals if l.absolute_ebr_lba < place]
+    behind = t.logicals[len(before):]
+    new = wanted.logicals[len(before)]
     if not t.logicals:
         place = extended.starting_lba
     partition = (b"\x00" + m.chs_bytes(new.partition.first_chs) + bytes([sys]) + m.chs_bytes(new.partition.last_chs)
                  + m.four(first - place) + m.four(end - first))
-    stores = [(place, bytes(446) + partition + bytes(16) + TAIL)]
-    if t.logicals:
-        last = t.logicals[-1].absolute_ebr_lba
+    stores = [(place, bytes(446) + partition + link_bytes(extended, behind[0] if behind else None) + TAIL)]
+    if before:
+        last = before[-1].absolute_ebr_lba
         stores.append((last, disk.records[last][:462] + link_bytes(extended, new) + TAIL))
     return stores
 
@@ -316,6 +340,11 @@ def in_first_place(t):
     return replace(t, logicals=(first, *t.logicals[1:]))
 
 
+def in_order(t):
+    """The logical partitions in the order of their EBRs."""
+    return replace(t, logicals=tuple(sorted(t.logicals, key=lambda l: l.absolute_ebr_lba)))
+
+
 def checked(x, t, made, wanted, records, out):
     """An accepted change: made is the second program's answer, or a planted one."""
     stores = decoded(out, len(made.stores))
@@ -328,7 +357,7 @@ def checked(x, t, made, wanted, records, out):
 def pushed(x, t, request, made, out):
     align, geometry, sys, start, sectors = request
     asked = replace(t, align=align, cylinders=geometry.cylinders, heads=geometry.heads, sectors=geometry.sectors)
-    wanted = in_first_place(m.push(asked, sys, start, sectors).table)
+    wanted = in_first_place(in_order(m.push(asked, sys, start, sectors).table))
     checked(x, t, made, wanted, push_records(m.extract_disk(x), t, wanted, align, sys, start, sectors), out)
 
 
@@ -349,10 +378,10 @@ def try_push(rng, x, t, changed=lambda made, out: made):
     except Refusal:
         hold("lent bytes stay on a refusal", out == LENT * room)
         hold("refused only as listed", room < m.STORES or not push_holds(t, *request))
-        return False
+        return None
     hold("accepted only if no refusal applies", room >= m.STORES and push_holds(t, *request))
     pushed(x, t, request, changed(made, out), out)
-    return True
+    return made
 
 
 def try_removal(rng, x, t, number, changed=lambda made, out: made):
@@ -375,24 +404,32 @@ def numbers(rng, t):
     return {5, last, rng.randrange(4, 7 + len(t.logicals))}
 
 
+def in_a_gap(t, made):
+    """Does a partition of the table before stand behind the new one?"""
+    return any(l.absolute_ebr_lba > made.stores[0][0] for l in t.logicals)
+
+
 def run(disks, seed):
     rng = random.Random(seed)
-    pushes = removals = empty = behind = gone = 0
+    counts = dict.fromkeys(("pushes", "gaps", "removals", "empty", "behind", "gone"), 0)
     for _ in range(disks):
         x = sound_disk(rng)
         t = m.read_table(x)
         hold("a generated disk is sound", not m.broken_rules(t))
-        empty += empty_first(t)
+        counts["empty"] += empty_first(t)
         for _ in range(3):
-            done = try_push(rng, x, t)
-            pushes += done
-            behind += done and empty_first(t)
+            made = try_push(rng, x, t)
+            if made:
+                counts["pushes"] += 1
+                counts["behind"] += empty_first(t)
+                counts["gaps"] += in_a_gap(t, made)
         for number in numbers(rng, t):
             done = try_removal(rng, x, t, number)
-            removals += done
-            gone += done and empty_first(t)
-    hold("a fifth of the disks have an empty first EBR", disks < 100 or empty >= disks // 5)
-    return pushes, removals, empty, behind, gone
+            counts["removals"] += done
+            counts["gone"] += done and empty_first(t)
+    hold("a fifth of the disks have an empty first EBR", disks < 100 or 5 * counts["empty"] >= disks)
+    hold("a third of the pushes go into a gap", disks < 100 or 3 * counts["gaps"] >= counts["pushes"])
+    return counts
 
 
 # ---------------------------------------------------------------- planted faults
@@ -400,6 +437,14 @@ def run(disks, seed):
 
 def altered(out, at, new):
     out[at:at + len(new)] = new
+
+
+def follows(made):
+    """The index of the new one in the table after a push that has a partition behind it; else none."""
+    places = [l.absolute_ebr_lba for l in made.table.logicals]
+    if len(made.stores) == 2 and made.stores[0][0] != places[-1]:
+        return places.index(made.stores[0][0])
+    return None
 
 
 def exchanged(made, out):
@@ -474,6 +519,53 @@ def first_filled(made, out):
     return made
 
 
+def exchanged_in_gap(made, out):
+    """The link to the new EBR stored before it where others follow, which are all lost in between."""
+    return exchanged(made, out) if follows(made) is not None else made
+
+
+def without_link(made, out):
+    """The new EBR without its link: all that follow are lost."""
+    if follows(made) is not None:
+        altered(out, 4 + 462, bytes(16))
+    return made
+
+
+def link_one_on(made, out):
+    """The new EBR's link leads to the one behind the next, or is an end where there is none: the next one is lost."""
+    at = follows(made)
+    if at is not None:
+        altered(out, 4 + 462, m.record_at(made.table, at + 1)[1][462:478])
+    return made
+
+
+def link_type(made, out):
+    """The type of the new EBR's own link wrong: it reads the same, and the bytes tell."""
+    if follows(made) is not None:
+        out[4 + 462 + 4] ^= 0x80
+    return made
+
+
+def answered_last(made, out):
+    """The new one last in the answered table only."""
+    at = follows(made)
+    if at is not None:
+        logicals = made.table.logicals
+        made = made._replace(table=replace(made.table, logicals=logicals[:at] + logicals[at + 1:] + logicals[at:at + 1]))
+    return made
+
+
+def put_last(made, out):
+    """The new one put last in the order: its EBR ends the chain, and the former last one's links back to it."""
+    if follows(made) is not None:
+        made = answered_last(made, out)
+        last = len(made.table.logicals) - 1
+        for k, at in enumerate((last, last - 1)):
+            lba, record = m.record_at(made.table, at)
+            altered(out, m.STORE * k, m.four(lba) + record)
+    return made
+
+
 def byte_behind(made, out):
     """A lent byte behind the stores changed."""
     if len(out) > m.STORE * len(made.stores):
@@ -482,7 +574,37 @@ def byte_behind(made, out):
 
 
 FAULTS = (exchanged, repeated, one_dropped, other_type, partition_type, code_lost, one_sector_on, on_data,
-          over_empty, first_filled, byte_behind)
+          over_empty, first_filled, exchanged_in_gap, without_link, link_one_on, link_type, answered_last, put_last, byte_behind)
+
+
+def only_earlier(logicals, at, new):
+    """Only the one before looked at."""
+    return m.end_of(logicals, at - 1) <= new.absolute_ebr_lba
+
+
+def only_later(logicals, at, new):
+    """Only the one behind looked at."""
+    return at == len(logicals) or new.partition.end <= logicals[at].absolute_ebr_lba
+
+
+def by_new_end(logicals, new):
+    """The one before chosen by the end of the new one, instead of its EBR."""
+    return sum(l.absolute_ebr_lba <= new.partition.end for l in logicals)
+
+
+def by_own_end(logicals, new):
+    """The one before chosen by its own end, instead of its EBR: it ends before the new one's EBR."""
+    return sum(m.end_of(logicals, at) < new.absolute_ebr_lba for at in range(len(logicals)))
+
+
+def always_last(logicals, new):
+    """Behind the last one only."""
+    return len(logicals)
+
+
+# What is planted into a function of model.py that decides.
+RULES = (("in_gap", only_earlier), ("in_gap", only_later), ("place_in_order", by_new_end), ("place_in_order", by_own_end),
+         ("place_in_order", always_last))
 
 
 def noticed(fault, disks, seed):
@@ -500,19 +622,31 @@ def noticed(fault, disks, seed):
     return broken
 
 
+def noticed_rule(name, fault, disks, seed):
+    """The same for a function of model.py, whose place the fault takes."""
+    kept = getattr(m, name)
+    setattr(m, name, fault)
+    try:
+        return noticed(lambda made, out: made, disks, seed)
+    finally:
+        setattr(m, name, kept)
+
+
 if __name__ == "__main__":
     disks = int(sys.argv[1]) if len(sys.argv) > 1 else 3000
-    for fault in FAULTS:
+    plants = [(fault, partial(noticed, fault)) for fault in FAULTS]
+    plants += [(fault, partial(noticed_rule, name, fault)) for name, fault in RULES]
+    for fault, plant in plants:
         # what few disks give occasion to is sought on more of them
-        broken = noticed(fault, 60, 31) or noticed(fault, 1000, 31)
+        broken = plant(60, 31) or plant(1000, 31)
         if not broken:
             sys.exit(f"replay: the planted fault {fault.__name__} was not noticed")
         if "-v" in sys.argv:
             print(fault.__name__, broken)
     try:
-        pushes, removals, empty, behind, gone = run(disks, 30)
+        counts = run(disks, 30)
     except Violation as v:
         sys.exit(f"replay: {v}: not so")
-    print(f"replay: demand 3 holds on {disks} sound disks, of {pushes} careful pushes and {removals} careful removals; {empty} "
-          f"of the disks have an empty first EBR, with {behind} of the pushes and {gone} of the removals; {len(FAULTS)} planted "
-          f"faults noticed")
+    print("replay: demand 3 holds on {disks} sound disks, of {pushes} careful pushes, {gaps} of them into a gap, and {removals} "
+          "careful removals; {empty} of the disks have an empty first EBR, with {behind} of the pushes and {gone} of the "
+          "removals; {faults} planted faults noticed".format(disks=disks, faults=len(plants), **counts))

@@ -1,4 +1,4 @@
-"""Holds model.py to the numbers of document 01, to small disks of request 3, and to what the documents say of any disk."""
+"""Holds model.py to the numbers of document 01, to disks of requests 2 and 3, and to what the documents say of any disk."""
 import random
 from dataclasses import replace
 
@@ -438,6 +438,111 @@ def first_empty():
     same(bytes(out), x)
 
 
+def zones(*places, sectors=32768):
+    """An extended partition at 4,096, and for each zone its EBR's place, its start and its sectors; each link is of another kind
+    than a change would write it."""
+    records = {0: m.header_bytes(header(part(5, 4096, sectors)))}
+    for k, (place, first, length) in enumerate(places):
+        link = m.NO_ENTRY
+        if k + 1 < len(places):
+            nxt = places[k + 1]
+            link = Entry(0x80, CHS(k + 1, 2, 3), 0x85, CHS(k + 1, 5, 6), nxt[0] - 4096, nxt[1] + nxt[2] - nxt[0] + 7)
+        records[place] = m.ebr_bytes(m.EBR(bytes([k + 1]) * 446, part(0x83 if length else 0, first - place, length), link))
+    return extract(4096 + sectors, records)
+
+
+def gaps():
+    """Three zones, the middle one removed: from 8,192 on, the first one's end, to 16,384, the last one's EBR, there is room."""
+    first, middle, last = (4096, 6144, 2048), (8192, 10240, 6144), (16384, 18432, 2048)
+    full, x = zones(first, middle, last), zones(first, last)
+
+    def push(x, start, sectors, align=2048, geometry=Geometry(0, 0, 0), lent=m.STORES):
+        return m.careful_push(x, align, geometry, 0x07, start, sectors, bytearray(lent))
+
+    done = m.careful_removal(full, 6, bytearray(m.STORES))
+    same([l.partition for l in done.table.logicals], [l.partition for l in m.read_table(x).logicals])
+    # both limits, at alignment 2,048 and at others
+    for align, start, sectors, end in (
+            (2048, 8192, 8192, 16384), (2048, 8192, 8191, 16384), (2048, 8192, 4096, 12288), (2048, 6145, 4096, 12288),
+            (2048, 12288, 4096, 16384), (2048, 12287, 2049, 16384), (1, 8192, 2, 8194), (1, 16382, 2, 16384),
+            (1, 8192, 8192, 16384), (2, 8191, 8191, 16384)):
+        done = push(x, start, sectors, align)
+        place = -(-start // align) * align
+        same([lba for lba, _ in done.stores], [place, 4096])
+        same([(l.absolute_ebr_lba, l.partition.starting_lba, l.partition.sectors) for l in done.table.logicals],
+             [first, (place, place + align, end - place - align), last])
+    for start, sectors in ((8192, 8193), (10240, 6145), (14336, 4096), (4096, 4096), (16384, 4096), (6144, 4096)):
+        refused(21, push, x, start, sectors)
+    for start in (4096, 4097, 6143, 6144, 8191, 16383, 16384, 16385, 18431, 18432, 20479):
+        refused(21, push, x, start, 2, 1)
+    for start, sectors in ((8191, 8193), (8192, 8193), (4096, 32768)):
+        refused(21, push, x, start, sectors, 1)
+    # 10, 11 and 12 come first; 21 before 19
+    refused(10, push, x, 4095, 2, 1)
+    refused(10, push, x, 4095, 32769, 1)
+    refused(11, push, x, 36863, 2, 1)
+    refused(12, push, x, 4096, 32769, 1)
+    refused(12, push, x, 8192, 32768)
+    refused(21, push, x, 8191, 2, 1, Geometry(0, 0, 0), 0)
+    refused(19, push, x, 8192, 2, 1, Geometry(0, 0, 0), m.STORES - 1)
+    # every byte: the link is written anew, with what the table has
+    link = Entry(0, CHS(1, 2, 3), 5, CHS(1, 5, 6), 12288, 4103)
+    for geometry, chs in ((Geometry(0, 0, 0), [m.NO_CHS] * 4),
+                          (Geometry(99, 16, 63), [m.from_lba_exact(lba, 99, 16, 63) for lba in (10240, 12287, 8192, 12287)])):
+        done = push(x, 8192, 4096, geometry=geometry)
+        new = m.EBR(bytes(446), Entry(0, chs[0], 7, chs[1], 2048, 2048), link)
+        earlier = m.EBR(b"\1" * 446, part(0x83, 2048, 2048), Entry(0, chs[2], 5, chs[3], 4096, 4096))
+        same(done.stores, [(8192, m.ebr_bytes(new)), (4096, m.ebr_bytes(earlier))])
+        same(done.table.logicals[1], m.Logical(Entry(0, chs[0], 7, chs[1], 10240, 2048), 8192, 4096, chs[2], chs[3], bytes(446)))
+        same(done.table.logicals[2], m.read_table(x).logicals[1])
+        same(m.read_disk(after_stores(x, done.stores[:1])), m.read_table(x))
+        same(m.read_disk(after_stores(x, done.stores)).logicals, done.table.logicals)
+    # behind the last one nothing follows
+    same(push(x, 20480, 4096).stores[0], (20480, m.ebr_bytes(m.EBR(bytes(446), part(7, 2048, 2048), m.NO_ENTRY))))
+    # two gaps, the first too small; one of exactly double the alignment
+    x = zones(first, (12288, 14336, 2048), (22528, 24576, 2048))
+    refused(21, push, x, 8192, 6144)
+    same([l.absolute_ebr_lba for l in push(x, 16384, 6144).table.logicals], [4096, 12288, 16384, 22528])
+    same([l.absolute_ebr_lba for l in push(x, 8192, 4096).table.logicals], [4096, 8192, 12288, 22528])
+    refused(21, push, x, 8193, 4096)
+    refused(9, push, x, 8192, 2048)
+    # between an empty first EBR and the second it is a later one too
+    x = zones((4096, 4096, 0), last)
+    done = push(x, 6144, 10240)
+    same(done.table.logicals[1], m.Logical(part(7, 8192, 8192), 6144, 10240, m.NO_CHS, m.NO_CHS, bytes(446)))
+    same(done.stores[1], (4096, m.ebr_bytes(m.EBR(b"\1" * 446, m.NO_ENTRY, part(5, 2048, 10240)))))
+    same([lba for lba, _ in push(x, 4097, 12287, 1).stores], [4097, 4096])
+    refused(21, push, x, 4096, 2, 1)
+    refused(21, push, x, 4097, 12288, 1)
+    # as many as there can be, then one more
+    x = zones(*((4096 + 1000 * k, 4097 + 1000 * k, 500) for k in range(m.LOGICALS - 1)))
+    for k in range(m.LOGICALS - 1):
+        done = push(x, 4597 + 1000 * k, 499, 1)
+        same([l.partition.sys for l in done.table.logicals].index(7), k + 1)
+    x = zones(*((4096 + 1000 * k, 4097 + 1000 * k, 500) for k in range(m.LOGICALS)))
+    refused(6, push, x, 4597, 499, 1)
+    refused(6, push, x, 4096, 499, 1)
+
+
+def free_by_sectors():
+    """21 counted out: no sector of the new EBR and its partition is one from an EBR to the end of its own partition."""
+    rng = random.Random(22)
+    tried = fits = 0
+    for _ in range(300):
+        t = answer(m.read_table, any_disk(rng))[1]
+        if not isinstance(t, m.Table) or not m.sound(t) or not t.logicals:
+            continue
+        extended = t.header.extended()
+        taken = {s for at, l in enumerate(t.logicals) for s in range(l.absolute_ebr_lba, m.end_of(t.logicals, at))}
+        for place in range(extended.starting_lba, extended.end):
+            for end in range(place + 2, min(place + 9, extended.end + 1)):
+                new = m.Logical(part(0x83, place + 1, end - place - 1), place, end - place, m.NO_CHS, m.NO_CHS, bytes(446))
+                free = taken.isdisjoint(range(place, end))
+                same(m.in_gap(t.logicals, m.place_in_order(t.logicals, new), new), free)
+                tried, fits = tried + 1, fits + (free and place < t.logicals[-1].absolute_ebr_lba)
+    same(tried > 20000 and fits > 300, True)
+
+
 def any_disk(rng):
     """A small disk with a chain, often sound."""
     disk_size = rng.randrange(60, 140)
@@ -447,13 +552,14 @@ def any_disk(rng):
     if rng.random() < 0.3:
         places.append((start, start, 0))
         at = start + 1 + rng.randrange(0, 4)
-    while len(places) < rng.randrange(0, 5):
+    n = rng.randrange(0, 6)
+    while len(places) < n:
         first = at + rng.randrange(1, 4)
         length = rng.randrange(1, 12)
         if first + length > start + sectors and rng.random() < 0.95:
             break
         places.append((at, first, length))
-        at = first + length + rng.randrange(0, 5)
+        at = first + length + rng.choice((0, 1, 4, 9, 14))
     records = {0: m.header_bytes(header(part(rng.choice((5, 15, 0x85)), start, sectors)))}
     for i, (place, first, length) in enumerate(places):
         link = m.NO_ENTRY
@@ -467,14 +573,17 @@ def any_disk(rng):
 def careful_disks():
     """Every prefix of the stores reads as the old table or as the new one."""
     rng = random.Random(20)
-    accepted = behind_empty = 0
+    accepted = behind_empty = into_gap = 0
     for _ in range(6000):
         x = any_disk(rng)
         old = answer(m.read_table, x)
         if rng.random() < 0.6:
             align = rng.choice((1, 1, 2, 3))
             geometry = rng.choice((Geometry(0, 0, 0), Geometry(20, 2, 4)))
-            change = answer(m.careful_push, x, align, geometry, 0x83, rng.randrange(0, 90), rng.randrange(0, 30),
+            start = rng.randrange(0, 90)
+            if old[0] == "done" and old[1].logicals and rng.random() < 0.5:
+                start = m.end_of(old[1].logicals, rng.randrange(len(old[1].logicals))) + rng.randrange(-1, 3)
+            change = answer(m.careful_push, x, align, geometry, 0x83, start, rng.randrange(0, rng.choice((9, 30))),
                             bytearray(m.STORES))
         else:
             change = answer(m.careful_removal, x, rng.randrange(4, 10), bytearray(m.STORES))
@@ -483,13 +592,14 @@ def careful_disks():
         accepted += 1
         behind_empty += m.is_empty_first(old[1].logicals, 0) if old[1].logicals else 0
         after, stores = change[1]
+        into_gap += len(stores) == 2 and any(l.absolute_ebr_lba > stores[0][0] for l in old[1].logicals)
         for k in range(len(stores) + 1):
             now = m.read_disk(after_stores(x, stores[:k]))
             want = after if k == len(stores) else old[1]
             # alignment and geometry are the request's, not the disk's
             same(now, replace(want, align=now.align, cylinders=0, heads=0, sectors=0))
             same(m.broken_rules(now), [])
-    same(accepted > 1000 and behind_empty > 300, True)
+    same(accepted > 1000 and behind_empty > 300 and into_gap > 100, True)
 
 
 def written_disks():
@@ -510,6 +620,6 @@ def written_disks():
 
 
 for group in (chs_numbers, alignment_numbers, free_numbers, disk_k_numbers, extract_rules, chain_rules, pushes,
-              lookups, writing, soundness, first_empty, careful_disks, written_disks):
+              lookups, writing, soundness, first_empty, gaps, free_by_sectors, careful_disks, written_disks):
     group()
 print(f"selftest: {count} checks hold")

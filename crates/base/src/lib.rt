@@ -55,7 +55,7 @@ impl Refusal {
 
     pub const NOT_SOUND: Refusal = Refusal { number: 20 };
 
-    pub const BEFORE_LAST: Refusal = Refusal { number: 21 };
+    pub const NO_GAP: Refusal = Refusal { number: 21 };
 
     pub const TOO_MANY_RECORDS: Refusal = Refusal { number: 22 };
 

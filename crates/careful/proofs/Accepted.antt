@@ -7,10 +7,11 @@ use Prim.Native.Nat.{ℕ, zero, suc, _+_, _-_, _*_, _^_, _≤_, _<_}
 use native.Mathlib.Nat.{suc-add}
 use native.Mathlib.Omega.{arith}
 use lib.Dec.{ltb, leb}
-use lib.ListN.{length, length-append}
+use lib.ListN.{length, take, drop, length-append, take-append-drop}
 use borrow.Author.Tests.{ltb-true, leb-true, lt-ltb, ne-eqb, not-true}
 use Rattle.base.specs.Checks.{Check, _!_, AllHold}
 use Rattle.base.specs.Said.{gives}
+use Rattle.base.specs.Row.{next}
 use Rattle.base.proofs.Checks.{hold-left, hold-right}
 use Rattle.record_entry.specs.declared.MBRPartitionEntry.{MBRPartitionEntry}
 use Rattle.record_entry.specs.Entry.{noEntry, used, extended, endOf}
@@ -21,31 +22,21 @@ use Rattle.chain.specs.Chain.{firstLink}
 use Rattle.chain.specs.Facts.{seen, at, linkIn, Holds}
 use Rattle.table_push.specs.declared.request.Request.{Request}
 use Rattle.table_push.specs.Push.{placeOf, sizeOf, laterThan, newLogical, roundChecks, placeChecks, endChecks, geometryChecks, pushChecks, pushed}
-use Rattle.sound.specs.Sound.{Contents, extendedEntry, areaEnd, end, Sound, soundb}
+use Rattle.sound.specs.Sound.{Contents, extendedEntry, areaEnd, end, bound, Sound, soundb}
+use Rattle.sound.proofs.Good.{Good}
 use Rattle.sound.proofs.Test.{is-sound}
 use Rattle.chain.specs.Links.{write}
 use Rattle.careful_stores.specs.Space.{endBehind}
-use Rattle.careful.specs.Stores.{moved, firstInPlace, leftOut, lastLogical, lastListed, pushStores, skipStore, removeStore}
+use Rattle.careful_stores.specs.Order.{upTo, orderAt, earlier, behindAt, laterOne}
+use Rattle.careful.specs.Stores.{moved, firstInPlace, leftOut, lastLogical, lastListed, lastMoved, pushStores, skipStore, removeStore}
 use Rattle.careful.specs.Careful.{relist, roomNeeded, askChecks, spaceChecks, pushRefusals, pushChange, removeRefusals, removeChange}
 use Rattle.careful.specs.Demand3.{Whole, contentsOn, Safe}
 use Rattle.careful.proofs.Shown.{Shows, contents→shows, Heads, holds-heads}
-use Rattle.careful.proofs.Split.{split}
+use Rattle.careful.proofs.Split.{Split, split}
+use Rattle.careful.proofs.Order.{initOf, init-joined, cut-at, moved-last}
 use Rattle.careful.proofs.Push.{Room, push-safe}
 use Rattle.careful.proofs.Remove.{remove-safe, remove-first-safe, remove-only-safe, push-first-safe}
-use Rattle.careful.proofs.New.{Asked, NewOk, Fits, new-ok, new-zone, new-good, new-writable, new-span, new-linkable}
-
--- all but the last
-unfoldable initOf : LogicalPartition → List LogicalPartition → List LogicalPartition
-initOf l [] = []
-initOf l (m ∷ ms) = l ∷ initOf m ms
-
-init-last : (l : LogicalPartition) (ls : List LogicalPartition) → initOf l ls ++ lastLogical l ls ∷ [] ≡ l ∷ ls
-unfolding initOf lastLogical
-init-last l [] = refl
-init-last l (m ∷ ms) = ap (_∷_ l) (init-last m ms)
-
-appended : (l : LogicalPartition) (ls : List LogicalPartition) (n : LogicalPartition) → initOf l ls ++ lastLogical l ls ∷ n ∷ [] ≡ (l ∷ ls) ++ n ∷ []
-appended l ls n = sym (append-assoc (initOf l ls) (lastLogical l ls ∷ []) (n ∷ [])) ∙ ap (λ (k : List LogicalPartition). k ++ n ∷ []) (init-last l ls)
+use Rattle.careful.proofs.New.{Asked, NewOk, Fits, new-ok, new-zone, end-new, new-good, new-writable, new-span, new-linkable}
 
 -- a first one that stands in the first place already
 moved-same : (e : MBRPartitionEntry) (l : LogicalPartition) → at l ≡ e .«starting_lba» → linkIn l ≡ firstLink e → moved e l ≡ l
@@ -122,51 +113,66 @@ module _ (d : Disk) (t : Contents) (whole : Whole d) (small : t .size < 2 ^ 32) 
     Pushed e ls =
         Safe d t
         (record {
-          stores = pushStores e ls (newLogical (laterThan (length ls)) q);
-          result = relist t (firstInPlace e (pushed q ls));
+          stores = pushStores e (placeOf q) ls (newLogical (laterThan (length ls)) q);
+          result = relist t (firstInPlace e (lastMoved (orderAt (placeOf q) ls) (pushed q ls)));
         })
 
     later-true : (l : LogicalPartition) (ls : List LogicalPartition) → laterThan (length (l ∷ ls)) ≡ true
     later-true l ls = lt-ltb 0 (length (l ∷ ls)) (omega arith)
 
     into-empty : (e : MBRPartitionEntry) → extendedEntry t ≡ some e → t .logicals ≡ [] → AllHold (pushChecks q (some e) 0) → placeOf q + sizeOf q ≤ endOf e → Pushed e []
-    unfolding pushStores pushed firstInPlace
+    unfolding pushStores pushed firstInPlace orderAt
     into-empty e x z h high =
         let f : Fits q e = fits-of q e 0 h a high in
-        let o : NewOk false q (newLogical false q) = new-ok false q asked (geometry-hold q e 0 h) in
-        push-first-safe d t e (newLogical false q) small now r s x z (omega (arith, o .place, f .low)) (new-zone false q e (newLogical false q) asked f o) (new-good false q e (newLogical false q) asked f o)
-        (new-writable false q e (newLogical false q) asked f o)
+        let new : LogicalPartition = newLogical false q in
+        let o : NewOk false q new = new-ok false q asked (geometry-hold q e 0 h) in
+        let safe : Safe d t (record { stores = write e (moved e new) none ∷ []; result = relist t (firstInPlace e (new ∷ [])) }) =
+        push-first-safe d t e new small now r s x z (omega (arith, o .place, f .low)) (new-zone false q e new asked f o) (new-good false q e new asked f o)
+        (new-writable false q e new asked f o) in
+        subst (λ (ns : List LogicalPartition). Safe d t (record { stores = write e (moved e new) none ∷ []; result = relist t (firstInPlace e ns) })) (sym (moved-last 0 [] new)) safe
 
     into-chain : (e : MBRPartitionEntry) (l : LogicalPartition) (ls : List LogicalPartition) → extendedEntry t ≡ some e → t .logicals ≡ l ∷ ls
-        → AllHold (pushChecks q (some e) (length (l ∷ ls))) → placeOf q + sizeOf q ≤ endOf e → end (lastLogical l ls) ≤ placeOf q → Pushed e (l ∷ ls)
-    unfolding pushStores pushed
-    into-chain e l ls x z h high b =
+        → AllHold (pushChecks q (some e) (length (l ∷ ls))) → placeOf q + sizeOf q ≤ endOf e → end (earlier (placeOf q) (l ∷ ls)) ≤ placeOf q
+        → placeOf q + sizeOf q ≤ bound (endOf e) (laterOne (placeOf q) (l ∷ ls)) → Pushed e (l ∷ ls)
+    unfolding pushStores pushed orderAt earlier behindAt lastListed
+    into-chain e l ls x z h high low up =
         let n : ℕ = length (l ∷ ls) in
+        let j : ℕ = upTo (placeOf q) ls in
+        let xs : List LogicalPartition = take j ls in
+        let ms : List LogicalPartition = drop j ls in
+        let b : LogicalPartition = lastLogical l xs in
         let new : LogicalPartition = newLogical true q in
         let f : Fits q e = fits-of q e n h a high in
         let g : AllHold (geometryChecks true q) = rw (later-true l ls) at (geometry-hold q e n h) in
         let o : NewOk true q new = new-ok true q asked g in
-        let w : t .logicals ≡ initOf l ls ++ lastLogical l ls ∷ [] = z ∙ sym (init-last l ls) in
-        let m : Room e (initOf l ls) (lastLogical l ls) [] new = record {
-          room = omega (arith, o .place);
-          good = new-good true q e new asked f o;
+        let w : t .logicals ≡ initOf l xs ++ b ∷ ms = z ∙ cut-at l ls j in
+        let c : Split d e (t .size) (initOf l xs) b ms = split d t e (initOf l xs) b ms whole r s x w in
+        let k : Good (endOf e) new none = new-good true q e new asked f o in
+        let long : length ls ≡ length xs + length ms = ap length (sym (take-append-drop j ls)) ∙ length-append xs ms in
+        let m : Room e (initOf l xs) b ms new = record {
+          room = omega (arith, o .place, low);
+          good = record { own = k .own; place = k .place; ends = omega (arith, end-new true q e new asked f o, up); linked = c .good .linked };
           link = new-span q e new asked f o;
           writable = new-writable true q e new asked f o;
           linkable = new-linkable q e new asked f o;
-          few = rw (appended l ls new) (omega (arith, few-hold q e n h, length-append (l ∷ ls) (new ∷ [])));
+          few = rw (init-joined l xs (new ∷ ms)) (omega (arith, few-hold q e n h, long, length-append (l ∷ xs) (new ∷ ms)));
         } in
-        let safe = push-safe d t e (initOf l ls) (lastLogical l ls) [] new small now r s x (split d t e (initOf l ls) (lastLogical l ls) [] whole r s x w) w m in
-        let same : initOf l ls ++ lastLogical l ls ∷ new ∷ [] ≡ firstInPlace e ((l ∷ ls) ++ new ∷ []) =
-        appended l ls new ∙ sym (first-same e l ls (heads-of d t e l ls r x z) (ls ++ new ∷ [])) in
+        let safe = push-safe d t e (initOf l xs) b ms new small now r s x c w m in
+        let same : initOf l xs ++ b ∷ new ∷ ms ≡ firstInPlace e (lastMoved (suc j) ((l ∷ ls) ++ new ∷ [])) =
+        init-joined l xs (new ∷ ms)
+        ∙ sym (ap (firstInPlace e) (moved-last (suc j) (l ∷ ls) new) ∙ first-same e l ls (heads-of d t e l ls r x z) (xs ++ new ∷ ms)) in
         rw (later-true l ls)
-        (subst (λ (ns : List LogicalPartition). Safe d t (record { stores = write e new none ∷ write e (lastLogical l ls) (some new) ∷ []; result = relist t ns })) same safe)
+        (subst (λ (ns : List LogicalPartition). Safe d t (record { stores = write e new (next ms none) ∷ write e b (some new) ∷ []; result = relist t ns })) same safe)
 
     into : (o : Option MBRPartitionEntry) → extendedEntry t ≡ o → (ls : List LogicalPartition) → t .logicals ≡ ls → AllHold (pushChecks q o (length ls))
-        → leb (placeOf q + sizeOf q) (areaEnd o) ≡ true → leb (endBehind (length ls) (lastListed ls)) (placeOf q) ≡ true → Pushed (Option·getD o noEntry) ls
-    unfolding areaEnd lastListed pushChecks
-    into none x ls z h c b = let w : _≡_ {A = ℕ} 0 1 = cc (h .0) in absurd (omega arith)
-    into (some e) x [] z h c b = into-empty e x z h (leb-true (placeOf q + sizeOf q) (endOf e) c)
-    into (some e) x (l ∷ ls) z h c b = into-chain e l ls x z h (leb-true (placeOf q + sizeOf q) (endOf e) c) (leb-true (end (lastLogical l ls)) (placeOf q) (rw (ne-eqb (length (l ∷ ls)) 0 (λ z. omega arith)) at b))
+        → leb (placeOf q + sizeOf q) (areaEnd o) ≡ true → leb (endBehind (orderAt (placeOf q) ls) (earlier (placeOf q) ls)) (placeOf q) ≡ true
+        → leb (placeOf q + sizeOf q) (bound (areaEnd o) (laterOne (placeOf q) ls)) ≡ true → Pushed (Option·getD o noEntry) ls
+    unfolding areaEnd pushChecks orderAt
+    into none x ls z h c b u = let w : _≡_ {A = ℕ} 0 1 = cc (h .0) in absurd (omega arith)
+    into (some e) x [] z h c b u = into-empty e x z h (leb-true (placeOf q + sizeOf q) (endOf e) c)
+    into (some e) x (l ∷ ls) z h c b u =
+        into-chain e l ls x z h (leb-true (placeOf q + sizeOf q) (endOf e) c) (leb-true (end (earlier (placeOf q) (l ∷ ls))) (placeOf q) (rw (ne-eqb (suc (upTo (placeOf q) ls)) 0 (λ z. omega arith)) at b))
+        (leb-true (placeOf q + sizeOf q) (bound (endOf e) (laterOne (placeOf q) (l ∷ ls))) u)
 
   -- removal
   Removed : MBRPartitionEntry → List LogicalPartition → Store → List LogicalPartition → Type 0
@@ -223,7 +229,7 @@ module _ (d : Disk) (t : Contents) (whole : Whole d) (small : t .size < 2 ^ 32) 
       let space : AllHold (spaceChecks q t) = hold-right (asks ++ pushes) (spaceChecks q t) upToSpace in
       let upToPush : AllHold (asks ++ pushes) = hold-left (asks ++ pushes) (spaceChecks q t) upToSpace in
       let ask : AllHold asks = hold-left asks pushes upToPush in
-      into d t whole small now shows (is-sound t .to (ask .0)) q asked (ask .1) (extendedEntry t) refl (t .logicals) refl (hold-right asks pushes upToPush) (space .0) (space .1 .0)
+      into d t whole small now shows (is-sound t .to (ask .0)) q asked (ask .1) (extendedEntry t) refl (t .logicals) refl (hold-right asks pushes upToPush) (space .0) (space .1 .0) (space .1 .1 .0)
 
   pub remove-accepted : (room n : ℕ) → AllHold (removeRefusals room n t) → Safe d t (removeChange n t)
   unfolding removeRefusals removeChange

@@ -26,9 +26,9 @@ use Rattle.table_remove.specs.Remove.{removeChecks, without, removedTable}
 use Rattle.table_remove.proofs.without.Laws.{without-logicals}
 use Rattle.table_push.proofs.Laws.{logicals-pushed}
 use Rattle.sound.specs.Sound.{Contents, contentsOf, extendedEntry, soundb}
-use Rattle.careful.specs.Stores.{firstInPlace, leftOut}
-use Rattle.careful.specs.Careful.{contents, relist, areaOf, roomNeeded, askChecks, spaceChecks, pushRefusals, pushChange, removeRefusals, removeChange, asAsked, inFirstPlace}
-use Rattle.careful.specs.Demand3.{Pushes, Removes}
+use Rattle.careful.specs.Stores.{firstInPlace, leftOut, lastMoved}
+use Rattle.careful.specs.Careful.{contents, relist, areaOf, roomNeeded, askChecks, orderOf, spaceChecks, pushRefusals, pushChange, removeRefusals, removeChange, asAsked, inFirstPlace, withLastAt}
+use Rattle.careful.specs.Demand3.{Pushes, Removes, afterPush, afterRemoval}
 use Rattle.careful.proofs.Shown.{Shows}
 
 -- what a table that was read holds
@@ -46,6 +46,10 @@ last-hold q o n h =
 placed-list : (t : Contents) (ls : List LogicalPartition) → inFirstPlace (relist t ls) ≡ relist t (firstInPlace (areaOf t) ls)
 unfolding inFirstPlace relist
 placed-list t ls = refl
+
+ordered-list : (k : ℕ) (t : Contents) (ls : List LogicalPartition) → inFirstPlace (withLastAt k (relist t ls)) ≡ relist t (firstInPlace (areaOf t) (lastMoved k ls))
+unfolding inFirstPlace withLastAt relist
+ordered-list k t ls = refl
 
 module _ (d : Disk) (t : Table) (r : Shows d (contents t)) where
   abbrev ls : List LogicalPartition
@@ -90,9 +94,11 @@ module _ (d : Disk) (t : Table) (r : Shows d (contents t)) where
     pub push-own : Pushes q t (pushTable (asAsked (tableOf t) q) (q .sys) (q .start) (q .sectors))
     push-own = record { number = push-number q pushes-hold; table = refl }
 
-    pub push-same : pushChange q (contents t) .result ≡ inFirstPlace (contentsOf (pushTable (asAsked (tableOf t) q) (q .sys) (q .start) (q .sectors)))
+    pub push-same : pushChange q (contents t) .result ≡ afterPush q t (pushTable (asAsked (tableOf t) q) (q .sys) (q .start) (q .sectors))
     unfolding pushChange
-    push-same = sym (ap inFirstPlace (ap contentsOf (push-accepts q pushes-hold) ∙ push-contents q pushes-hold) ∙ placed-list (contents t) (pushed q ls))
+    push-same =
+        let k : ℕ = orderOf q (contents t) in
+        sym (ap (λ (c : Contents). inFirstPlace (withLastAt k c)) (ap contentsOf (push-accepts q pushes-hold) ∙ push-contents q pushes-hold) ∙ ordered-list k (contents t) (pushed q ls))
 
   module _ (room n : ℕ) (h : AllHold (removeRefusals room n (contents t))) where
     there : (leb 5 n ≡ true) × (ltb (n - 5) (length ls) ≡ true)
@@ -116,6 +122,6 @@ module _ (d : Disk) (t : Table) (r : Shows d (contents t)) where
     pub remove-own : Removes n t (removedTable (tableOf t) n)
     remove-own = record { unrefused = all-hold (removeChecks (tableOf t) n) remove-hold; table = refl }
 
-    pub remove-same : removeChange n (contents t) .result ≡ inFirstPlace (contentsOf (removedTable (tableOf t) n))
+    pub remove-same : removeChange n (contents t) .result ≡ afterRemoval t (removedTable (tableOf t) n)
     unfolding removeChange
     remove-same = sym (ap inFirstPlace (ap contentsOf remove-accepts ∙ remove-contents) ∙ placed-list (contents t) (leftOut ls (n - 5)))

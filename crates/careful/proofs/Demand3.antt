@@ -29,9 +29,9 @@ use Rattle.table_push.specs.declared.request.Request.{Request}
 use Rattle.table_push.specs.Push.{pushTable}
 use Rattle.table_remove.specs.Remove.{removedTable}
 use Rattle.sound.specs.Sound.{Contents, contentsOf}
-use Rattle.careful.specs.Careful.{contents, Change, pushRefusals, pushChange, removeRefusals, removeChange, asAsked, inFirstPlace, changing, carefulPushSays, carefulRemoveSays}
+use Rattle.careful.specs.Careful.{contents, Change, pushRefusals, pushChange, removeRefusals, removeChange, asAsked, changing, carefulPushSays, carefulRemoveSays}
 use Rattle.careful.specs.Output.{storeBytes, storesBytes, storesIn, outAfter, countOf, storesCounted}
-use Rattle.careful.specs.Demand3.{Whole, contentsOn, Safe, Refused, Accepted, Demand3, Pushes, Removes, PushDemand3, RemoveDemand3}
+use Rattle.careful.specs.Demand3.{Whole, contentsOn, Safe, Refused, Accepted, Demand3, Pushes, Removes, afterPush, afterRemoval, PushDemand3, RemoveDemand3}
 use Rattle.careful_stores.specs.Stored.{storeLength}
 use Rattle.careful.proofs.Shown.{Shows, read→shows, read→contents}
 use Rattle.careful.proofs.New.{Asked}
@@ -83,9 +83,9 @@ rest-kept out c r =
     drop-at (storesBytes (c .stores)) (drop (0 + length (storesBytes (c .stores))) out) (countOf c * storeLength) n ∙ ap (λ (k : ℕ). drop k out) (z ∙ n)
 
 -- a call on lent bytes that says and leaves what the change says
-module _ (x : List ℕ) (b : Bytes x) (refusals : Contents → List Check) (change : Contents → Change) (crate : Table → MBR → Type 0) (own : Table → MBR)
+module _ (x : List ℕ) (b : Bytes x) (refusals : Contents → List Check) (change : Contents → Change) (crate : Table → MBR → Type 0) (settled : Table → MBR → Contents) (own : Table → MBR)
     (accepts : (d : Disk) (t : Table) → Shows d (contents t) → AllHold (refusals (contents t)) → crate t (own t))
-    (same : (d : Disk) (t : Table) → Shows d (contents t) → AllHold (refusals (contents t)) → change (contents t) .result ≡ inFirstPlace (contentsOf (own t)))
+    (same : (d : Disk) (t : Table) → Shows d (contents t) → AllHold (refusals (contents t)) → change (contents t) .result ≡ settled t (own t))
     (safe : (d : Disk) (t : Contents) → Whole d → t .size < 2 ^ 32 → contentsOn d ≡ gives t → AllHold (refusals t) → Safe d t (change t))
     (out : List ℕ) (said : Said ℕ) (left : List ℕ)
     (says : said ≡ storesCounted (changing refusals change (readSays x))) (leaves : left ≡ outAfter out (changing refusals change (readSays x))) where
@@ -96,7 +96,7 @@ module _ (x : List ℕ) (b : Bytes x) (refusals : Contents → List Check) (chan
   unfolding outAfter
   refused-with k e = told (refuses k) e
 
-  accepted-as : (t : Table) → readSays x ≡ gives t → AllHold (refusals (contents t)) → Accepted (contents t) (crate t) out said left
+  accepted-as : (t : Table) → readSays x ≡ gives t → AllHold (refusals (contents t)) → Accepted (contents t) (crate t) (settled t) out said left
   accepted-as t r h =
       let c : Change = change (contents t) in
       let g = good-read x b t r in
@@ -108,7 +108,7 @@ module _ (x : List ℕ) (b : Bytes x) (refusals : Contents → List Check) (chan
       let here : Safe (diskOf x) (contents t) c = safe (diskOf x) (contents t) (whole-of x (g .0)) small (read→contents (diskOf x) t (g .1)) h in
       let l : left ≡ outAfter out (gives c) = told (gives c) e .1 in
       let back : storesIn left (countOf c) ≡ c .stores = ap (λ (bs : List ℕ). storesIn bs (countOf c)) l ∙ stores-back (diskOf x) (contents t) c out below here in
-      let result : c .result ≡ inFirstPlace (contentsOf (own t)) = same (diskOf x) t shows h in
+      let result : c .result ≡ settled t (own t) = same (diskOf x) t shows h in
       record {
         own = own t;
         same = accepts (diskOf x) t shows h;
@@ -119,7 +119,7 @@ module _ (x : List ℕ) (b : Bytes x) (refusals : Contents → List Check) (chan
             subst (λ (k : Change). Safe d (contents t) k) (λ i. record { stores = sym back i; result = result i }) (safe d (contents t) w small reads h);
       }
 
-  demand3 : Demand3 refusals crate x out said left
+  demand3 : Demand3 refusals crate settled x out said left
   demand3 = record {
     unread = λ k r. refused-with k (ap (changing refusals change) r);
     refused = λ t r k f.
@@ -134,7 +134,7 @@ module _ (x : List ℕ) (b : Bytes x) (out : List ℕ) (said : Said ℕ) (left :
       → PushDemand3 q x out said left
   unfolding carefulPushSays
   push-demand3 q asked says leaves =
-      demand3 x b (pushRefusals (length out) q) (pushChange q) (Pushes q) (λ t. pushTable (asAsked (tableOf t) q) (q .sys) (q .start) (q .sectors))
+      demand3 x b (pushRefusals (length out) q) (pushChange q) (Pushes q) (afterPush q) (λ t. pushTable (asAsked (tableOf t) q) (q .sys) (q .start) (q .sectors))
       (λ d t s h. push-own d t s (length out) q h)
       (λ d t s h. push-same d t s (length out) q h)
       (λ d t w small r h. push-accepted d t w small r (length out) q asked h)
@@ -144,7 +144,7 @@ module _ (x : List ℕ) (b : Bytes x) (out : List ℕ) (said : Said ℕ) (left :
       → RemoveDemand3 n x out said left
   unfolding carefulRemoveSays
   remove-demand3 n says leaves =
-      demand3 x b (removeRefusals (length out) n) (removeChange n) (Removes n) (λ t. removedTable (tableOf t) n)
+      demand3 x b (removeRefusals (length out) n) (removeChange n) (Removes n) afterRemoval (λ t. removedTable (tableOf t) n)
       (λ d t s h. remove-own d t s (length out) n h)
       (λ d t s h. remove-same d t s (length out) n h)
       (λ d t w small r h. remove-accepted d t w small r (length out) n h)

@@ -6,6 +6,8 @@ pub mod Split
 pub mod Push
 pub mod Remove
 pub mod New
+pub mod Order
+pub mod Gap
 pub mod Accepted
 pub mod Crate
 pub mod Output

@@ -159,7 +159,7 @@ module _ (later : Bool) (q : Request) (e : MBRPartitionEntry) (l : LogicalPartit
     size = omega (arith, o .sectors, f .size, f .align);
   }
 
-  end-new : end l ≡ placeOf q + sizeOf q
+  pub end-new : end l ≡ placeOf q + sizeOf q
   end-new = omega (arith, zone-end l new-zone, o .start, o .sectors, f .size, f .align)
 
   pub new-good : Good (endOf e) l none

@@ -17,9 +17,10 @@ use Rattle.table_address.specs.declared.Geometry.{Geometry}
 use Rattle.table_push.specs.declared.request.Request.{Request}
 use Rattle.table_push.specs.Push.{placeOf, sizeOf, laterThan, newLogical, pushChecks, pushed}
 use Rattle.sound.specs.Sound.{Contents, extendedEntry, areaEnd, soundb}
-use Rattle.careful_stores.specs.Space.{endBehind}
+use Rattle.careful_stores.specs.Order.{orderAt}
+use Rattle.careful_stores.specs.Space.{startsBehind, endsBefore}
 pub use Rattle.careful_stores.specs.Stored.{roomNeeded}
-use Rattle.careful.specs.Stores.{firstInPlace, leftOut, lastListed, pushStores, removeStore}
+use Rattle.careful.specs.Stores.{firstInPlace, leftOut, lastMoved, pushStores, removeStore}
 
 -- what is read, but for the alignment, which no disk holds
 abbrev pub contents : Table → Contents
@@ -50,9 +51,17 @@ askChecks q = (23 ! used (q .sys)) ∷ (23 ! not (extended (q .sys))) ∷ (23 ! 
 abbrev pub askable : Request → Bool
 askable q = checked (askChecks q) (λ _. false) true
 
--- rules K10, K11: ends by the extended end, for a first one too, 12; starts at or after the last partition's end, 21 (rule K7)
+-- how many logical partitions stand before the new one
+abbrev pub orderOf : Request → Contents → ℕ
+orderOf q t = orderAt (placeOf q) (t .logicals)
+
+-- rules K10 and K11: ends by the extended end, for a first one too, 12; starts at or after the end of the one before it, and ends by the EBR of the one behind it, 21 (rule K7)
 unfoldable pub spaceChecks : Request → Contents → List Check
-spaceChecks q t = (12 ! leb (placeOf q + sizeOf q) (areaEnd (extendedEntry t))) ∷ (21 ! leb (endBehind (length (t .logicals)) (lastListed (t .logicals))) (placeOf q)) ∷ []
+spaceChecks q t =
+    (12 ! leb (placeOf q + sizeOf q) (areaEnd (extendedEntry t)))
+    ∷ (21 ! startsBehind (placeOf q) (t .logicals))
+    ∷ (21 ! endsBefore (areaEnd (extendedEntry t)) (placeOf q) (placeOf q + sizeOf q) (t .logicals))
+    ∷ []
 
 -- rules K2 to K15: the refusals of a careful push, after reading's, 20, 23, all of push, 12, 21, 19
 unfoldable pub pushRefusals : ℕ → Request → Contents → List Check
@@ -64,12 +73,12 @@ pushRefusals room q t =
     ++ (19 ! leb roomNeeded room)
     ∷ []
 
--- its stores; the new partition stands last, and the first-place rule holds
+-- its stores; the new partition stands at its place in the order, and the first-place rule holds
 unfoldable pub pushChange : Request → Contents → Change
 pushChange q t =
     record {
-      stores = pushStores (areaOf t) (t .logicals) (newLogical (laterThan (length (t .logicals))) q);
-      result = relist t (firstInPlace (areaOf t) (pushed q (t .logicals)));
+      stores = pushStores (areaOf t) (placeOf q) (t .logicals) (newLogical (laterThan (length (t .logicals))) q);
+      result = relist t (firstInPlace (areaOf t) (lastMoved (orderOf q t) (pushed q (t .logicals))));
     }
 
 -- rules V2 to V6: those of a careful removal, after reading's, 20, 17, 19 (rule V16)
@@ -103,6 +112,10 @@ asAsked t q =
 -- a table under the first-place rule
 unfoldable pub inFirstPlace : Contents → Contents
 inFirstPlace t = relist t (firstInPlace (areaOf t) (t .logicals))
+
+-- a table whose last logical partition is put behind the first k (rule K31)
+unfoldable pub withLastAt : ℕ → Contents → Contents
+withLastAt k t = relist t (lastMoved k (t .logicals))
 
 -- a careful change of what was read: reading's refusals, then the listed ones
 abbrev pub changing : (Contents → List Check) → (Contents → Change) → Said Table → Said Change

@@ -18,7 +18,7 @@ use Rattle.table_push.specs.declared.request.Request.{Request}
 use Rattle.table_push.specs.Push.{pushSays, pushTable}
 use Rattle.table_remove.specs.Remove.{removeChecks, removedTable}
 use Rattle.sound.specs.Sound.{Contents, contentsOf, primariesOf, Used, Extended, Sound}
-use Rattle.careful.specs.Careful.{contents, Change, pushRefusals, removeRefusals, asAsked, inFirstPlace}
+use Rattle.careful.specs.Careful.{contents, Change, orderOf, pushRefusals, removeRefusals, asAsked, inFirstPlace, withLastAt}
 use Rattle.careful.specs.Output.{storesIn}
 use Rattle.careful_stores.specs.Stored.{storeLength}
 
@@ -59,8 +59,8 @@ pub record Safe (d : Disk) (t : Contents) (c : Change) : Type 0 where
 abbrev pub Refused : List ℕ → Said ℕ → List ℕ → ℕ → Type 0
 Refused out said left k = (said ≡ refuses k) × (left ≡ out)
 
--- accepted, on an extract that reads as the table t
-pub record Accepted (t : Contents) (crate : MBR → Type 0) (out : List ℕ) (said : Said ℕ) (left : List ℕ) : Type 0 where
+-- accepted, on an extract that reads as the table t; the crate's own table is put in order by `settled`
+pub record Accepted (t : Contents) (crate : MBR → Type 0) (settled : MBR → Contents) (out : List ℕ) (said : Said ℕ) (left : List ℕ) : Type 0 where
   -- the crate's own change is accepted too, and gives this table
   pub own : MBR
   pub same : crate own
@@ -68,17 +68,17 @@ pub record Accepted (t : Contents) (crate : MBR → Type 0) (out : List ℕ) (sa
   pub number : ℕ
   pub counted : said ≡ gives number
   pub rest : drop (number * storeLength) left ≡ drop (number * storeLength) out
-  -- put on any disk that reads as t they are safe, and end in the crate's own table under the first-place rule
-  pub safe : (d : Disk) → Whole d → contentsOn d ≡ gives t → Safe d t (record { stores = storesIn left number; result = inFirstPlace (contentsOf own) })
+  -- put on any disk that reads as t they are safe, and end in the crate's own table, so settled
+  pub safe : (d : Disk) → Whole d → contentsOn d ≡ gives t → Safe d t (record { stores = storesIn left number; result = settled own })
 
 -- Demand 3 of one call: the lent extract and output, what the call said, and the output that it left
-pub record Demand3 (refusals : Contents → List Check) (crate : Table → MBR → Type 0) (x out : List ℕ) (said : Said ℕ) (left : List ℕ) : Type 0 where
+pub record Demand3 (refusals : Contents → List Check) (crate : Table → MBR → Type 0) (settled : Table → MBR → Contents) (x out : List ℕ) (said : Said ℕ) (left : List ℕ) : Type 0 where
   -- reading's refusals come first
   pub unread : (k : ℕ) → readSays x ≡ refuses k → Refused out said left k
   -- then those listed; sound, 20, is the first of them
   pub refused : (t : Table) → readSays x ≡ gives t → (k : ℕ) → FirstFail (refusals (contents t)) k → Refused out said left k
   -- there is no other ground to refuse
-  pub accepted : (t : Table) → readSays x ≡ gives t → AllHold (refusals (contents t)) → Accepted (contents t) (crate t) out said left
+  pub accepted : (t : Table) → readSays x ≡ gives t → AllHold (refusals (contents t)) → Accepted (contents t) (crate t) (settled t) out said left
 
 -- the crate's own push of what is asked for, on the table t with that alignment and geometry: the new partition's number, and the table u
 pub record Pushes (q : Request) (t : Table) (u : MBR) : Type 0 where
@@ -90,9 +90,17 @@ pub record Removes (n : ℕ) (t : Table) (u : MBR) : Type 0 where
   pub unrefused : first-fail (removeChecks (tableOf t) n) ≡ none
   pub table : removedTable (tableOf t) n ≡ u
 
+-- after a push the new partition, the crate's last, stands at its place in the order of t; then the first-place rule
+abbrev pub afterPush : Request → Table → MBR → Contents
+afterPush q t u = inFirstPlace (withLastAt (orderOf q (contents t)) (contentsOf u))
+
+-- after a removal the first-place rule alone
+abbrev pub afterRemoval : Table → MBR → Contents
+afterRemoval t u = inFirstPlace (contentsOf u)
+
 -- Demand 3 of a careful push, and of a careful removal
 abbrev pub PushDemand3 : Request → List ℕ → List ℕ → Said ℕ → List ℕ → Type 0
-PushDemand3 q x out said left = Demand3 (pushRefusals (length out) q) (Pushes q) x out said left
+PushDemand3 q x out said left = Demand3 (pushRefusals (length out) q) (Pushes q) (afterPush q) x out said left
 
 abbrev pub RemoveDemand3 : ℕ → List ℕ → List ℕ → Said ℕ → List ℕ → Type 0
-RemoveDemand3 n x out said left = Demand3 (removeRefusals (length out) n) (Removes n) x out said left
+RemoveDemand3 n x out said left = Demand3 (removeRefusals (length out) n) (Removes n) afterRemoval x out said left

@@ -3,16 +3,16 @@ use mathlib.Core.Path.{_≡_, refl, ap, sym, subst, _∙_}
 use mathlib.Core.Bool.{Bool, true, false, not}
 use mathlib.Core.Option.{Option, none, some}
 use mathlib.Core.List.{List, [], _∷_, _++_}
-use Prim.Native.Nat.{ℕ, _+_, _*_, _≤_, _<_}
+use Prim.Native.Nat.{ℕ, suc, _+_, _*_, _≤_, _<_}
 use native.Mathlib.Omega.{arith}
 use lib.Dec.{leb}
 use lib.ListN.{length}
-use borrow.Author.Tests.{leb-true}
+use borrow.Author.Tests.{leb-true, ne-eqb}
 use Rattle.base.specs.Pick.{pick}
 use Rattle.base.specs.Said.{refuses, failure}
 use Rattle.base.specs.Checks.{Check, _!_, checked, first-fail, AllHold}
 use Rattle.base.proofs.Checks.{checked-some, checked-none, checked-append, append-fails, append-holds, none-fails, hold-right}
-use Rattle.careful.specs.Stores.{lastListed}
+use Rattle.careful.specs.Stores.{pushStores}
 use Rattle.record_entry.specs.declared.MBRPartitionEntry.{MBRPartitionEntry}
 use Rattle.record_entry.specs.Entry.{used, extended, endOf}
 use Rattle.table.specs.declared.LogicalPartition.{LogicalPartition}
@@ -29,10 +29,15 @@ use Rattle.careful.proofs.Changing.{read-refused, read-told}
 use Rattle.careful.proofs.Accepted.{place-hold, align-hold}
 use Rattle.sound.proofs.Good.{sized-end}
 use Rattle.careful_stores.specs.declared.push_writer.Changed.{Changed}
-use Rattle.careful_stores.specs.Behind.{changedSaid, Tells, storesBehind}
-use Rattle.careful_stores.specs.Space.{endBehind, spaceBehind}
-use Rattle.careful_push.specs.Change.{checksBehind}
-use Rattle.careful_push.proofs.Lists.{stores-behind}
+use Rattle.careful_stores.specs.declared.push_writer.Between.{Between}
+use Rattle.careful_stores.specs.Order.{upTo, orderAt, earlier, laterOne, between}
+use Rattle.careful_stores.specs.Linked.{linkBehind, linkedStore}
+use Rattle.careful_stores.specs.Behind.{changedSaid, Tells, storesBetween}
+use Rattle.careful_stores.specs.Space.{spaceBetween}
+use Rattle.careful_stores.proofs.ebr_store.Laws.{write-linked}
+use Rattle.chain.specs.Links.{write}
+use Rattle.extract.specs.Disk.{Store}
+use Rattle.careful_push.specs.Change.{spaceAmong, checksAmong}
 use Rattle.careful_stores.proofs.push_writer.Laws.{tells-same}
 
 -- what a careful push says of an extract
@@ -80,29 +85,47 @@ size q e n a =
     omega (arith, align-hold q e n a)
 
 -- push's refusals come before them
-module _ (room : ℕ) (q : Request) (e : MBRPartitionEntry) (n : ℕ) (last : LogicalPartition) where
-  pub behind-fails : (k : ℕ) → first-fail (pushChecks q (some e) n) ≡ some k → first-fail (checksBehind room q e n last) ≡ some k
-  behind-fails k h =
-      append-fails (pushChecks q (some e) n) ((12 ! leb (placeOf q + sizeOf q) (endOf e)) ∷ (21 ! leb (endBehind n last) (placeOf q)) ∷ (19 ! leb roomNeeded room) ∷ []) k some none h
+module _ (room : ℕ) (q : Request) (e : MBRPartitionEntry) (n : ℕ) (ls : List LogicalPartition) where
+  pub among-fails : (k : ℕ) → first-fail (pushChecks q (some e) n) ≡ some k → first-fail (checksAmong room q e n ls) ≡ some k
+  among-fails k h = append-fails (pushChecks q (some e) n) (spaceAmong room q e ls) k some none h
 
-  pub behind-holds : (new : LogicalPartition) → first-fail (pushChecks q (some e) n) ≡ none → new ≡ newLogical (laterThan n) q
-      → first-fail (checksBehind room q e n last) ≡ first-fail (spaceBehind e n last new room)
-  behind-holds new h m =
-      let a : AllHold (pushChecks q (some e) n) = none-fails (pushChecks q (some e) n) h in
-      let s : q .align < sizeOf q = size q e n a in
-      append-holds (pushChecks q (some e) n) ((12 ! leb (placeOf q + sizeOf q) (endOf e)) ∷ (21 ! leb (endBehind n last) (placeOf q)) ∷ (19 ! leb roomNeeded room) ∷ []) some none a
-      ∙ ap (λ (i : ℕ). first-fail ((12 ! leb i (endOf e)) ∷ (21 ! leb (endBehind n last) (placeOf q)) ∷ (19 ! leb roomNeeded room) ∷ [])) (sym (new-end (laterThan n) q s))
-      ∙ ap (λ (i : ℕ). first-fail ((12 ! leb (end (newLogical (laterThan n) q)) (endOf e)) ∷ (21 ! leb (endBehind n last) i) ∷ (19 ! leb roomNeeded room) ∷ [])) (sym (new-at (laterThan n) q))
-      ∙ ap (λ (l : LogicalPartition). first-fail (spaceBehind e n last l room)) (sym m)
+  module _ (new : LogicalPartition) (h : first-fail (pushChecks q (some e) n) ≡ none) (m : new ≡ newLogical (laterThan n) q) where
+    holds : AllHold (pushChecks q (some e) n)
+    holds = none-fails (pushChecks q (some e) n) h
+
+    at-place : at new ≡ placeOf q
+    at-place = ap at m ∙ new-at (laterThan n) q
+
+    at-end : end new ≡ placeOf q + sizeOf q
+    at-end = ap end m ∙ new-end (laterThan n) q (size q e n holds)
+
+    pub among-holds : (b : Between) → b ≡ between e (at new) ls → first-fail (checksAmong room q e n ls) ≡ first-fail (spaceBetween e b new room)
+    unfolding between
+    among-holds b k =
+        append-holds (pushChecks q (some e) n) (spaceAmong room q e ls) some none holds
+        ∙ rw (k, at-end, at-place)
+
+    pub among-stores : (b : Between) → b ≡ between e (at new) ls → pushStores e (placeOf q) ls (newLogical (laterThan n) q) ≡ storesBetween e b new
+    unfolding between pushStores orderAt
+    among-stores b k =
+        ap (pushStores e (placeOf q) ls) (sym m) ∙ go ls
+        ∙ ap (λ (p : ℕ). storesBetween e (between e p ls) new) (sym at-place) ∙ ap (λ (z : Between). storesBetween e z new) (sym k)
+      where
+        go : (ls : List LogicalPartition) → pushStores e (placeOf q) ls new ≡ storesBetween e (between e (placeOf q) ls) new
+        go [] = refl
+        go (l ∷ ls) =
+            rw (ne-eqb (suc (upTo (placeOf q) ls)) 0 (λ z. omega arith))
+            (ap (λ (s : Store). s ∷ write e (earlier (placeOf q) (l ∷ ls)) (some new) ∷ []) (write-linked e new (laterOne (placeOf q) (l ∷ ls)))
+            ∙ ap (λ (s : Store). linkedStore new (linkBehind e (laterOne (placeOf q) (l ∷ ls))) ∷ s ∷ []) (write-linked e (earlier (placeOf q) (l ∷ ls)) (some new)))
 
 eight : (q : Request) (o : Option MBRPartitionEntry) (n : ℕ) → o ≡ none → first-fail (pushChecks q o n) ≡ some 8
 unfolding pushChecks
 eight q o n x = rw x
 
-space-at : (q : Request) (t : Contents) (e : MBRPartitionEntry) → extendedEntry t ≡ some e
-    → spaceChecks q t ≡ (12 ! leb (placeOf q + sizeOf q) (endOf e)) ∷ (21 ! leb (endBehind (length (t .logicals)) (lastListed (t .logicals))) (placeOf q)) ∷ []
+space-at : (room : ℕ) (q : Request) (t : Contents) (e : MBRPartitionEntry) → extendedEntry t ≡ some e
+    → spaceChecks q t ++ (19 ! leb roomNeeded room) ∷ [] ≡ spaceAmong room q e (t .logicals)
 unfolding spaceChecks areaEnd
-space-at q t e x = rw x
+space-at room q t e x = rw x
 
 -- what is asked for is refused by 23, or by none of these checks
 ask-says : (q : Request) → first-fail (askChecks q) ≡ pick (askable q) none (some 23)
@@ -152,22 +175,22 @@ module _ (room : ℕ) (q : Request) (t : Contents) where
     pub push-8 : extendedEntry t ≡ none → first-fail (pushRefusals room q t) ≡ some 8
     push-8 x = push-asked ∙ checked-some pushes some (checked (spaceChecks q t) some (first-fail room-check)) 8 (eight q (extendedEntry t) (length (t .logicals)) x)
 
-    push-behind : (e : MBRPartitionEntry) (n : ℕ) → extendedEntry t ≡ some e → length (t .logicals) ≡ n
-        → first-fail (pushRefusals room q t) ≡ first-fail (checksBehind room q e n (lastListed (t .logicals)))
-    push-behind e n x l =
-        push-asked ∙ rw (x, space-at q t e x, l)
-        (sym (checked-append (pushChecks q (some e) n) ((12 ! leb (placeOf q + sizeOf q) (endOf e)) ∷ (21 ! leb (endBehind n (lastListed (t .logicals))) (placeOf q)) ∷ room-check) some none))
+    push-among : (e : MBRPartitionEntry) (n : ℕ) → extendedEntry t ≡ some e → length (t .logicals) ≡ n
+        → first-fail (pushRefusals room q t) ≡ first-fail (checksAmong room q e n (t .logicals))
+    push-among e n x l =
+        push-asked
+        ∙ ap (λ (k : Option ℕ). checked pushes some k) (sym (checked-append (spaceChecks q t) room-check some none) ∙ ap first-fail (space-at room q t e x))
+        ∙ sym (checked-append pushes (spaceAmong room q e (t .logicals)) some none)
+        ∙ rw (x, l)
 
   push-stores : (e : MBRPartitionEntry) (n : ℕ) → extendedEntry t ≡ some e → length (t .logicals) ≡ n
-      → pushChange q t .stores ≡ storesBehind e n (lastListed (t .logicals)) (newLogical (laterThan n) q)
+      → pushChange q t .stores ≡ pushStores e (placeOf q) (t .logicals) (newLogical (laterThan n) q)
   unfolding pushChange
-  push-stores e n x l = rw (x, ← l) (stores-behind e (t .logicals) (newLogical (laterThan (length (t .logicals))) q))
+  push-stores e n x l = rw (x, l)
 
   pub push-told : soundb t ≡ true → first-fail (askChecks q) ≡ none → (e : MBRPartitionEntry) (n : ℕ) → extendedEntry t ≡ some e → length (t .logicals) ≡ n
-      → (last : LogicalPartition) → last ≡ lastListed (t .logicals) → (r : Changed) (old new : List ℕ)
-      → Tells r old new (checksBehind room q e n last) (storesBehind e n last (newLogical (laterThan n) q)) → Tells r old new (pushRefusals room q t) (pushChange q t .stores)
-  push-told h a e n x l last m r old new w =
-      let ls = lastListed (t .logicals) in
-      let g = newLogical (laterThan n) q in
-      tells-same r old new (pushRefusals room q t) (checksBehind room q e n ls) (pushChange q t .stores) (storesBehind e n ls g) (push-behind h a e n x l) (push-stores e n x l)
-      (subst (λ (y : LogicalPartition). Tells r old new (checksBehind room q e n y) (storesBehind e n y g)) m w)
+      → (r : Changed) (old new : List ℕ) → Tells r old new (checksAmong room q e n (t .logicals)) (pushStores e (placeOf q) (t .logicals) (newLogical (laterThan n) q))
+      → Tells r old new (pushRefusals room q t) (pushChange q t .stores)
+  push-told h a e n x l r old new w =
+      tells-same r old new (pushRefusals room q t) (checksAmong room q e n (t .logicals)) (pushChange q t .stores) (pushStores e (placeOf q) (t .logicals) (newLogical (laterThan n) q))
+      (push-among h a e n x l) (push-stores e n x l) w

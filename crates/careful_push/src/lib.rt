@@ -2,57 +2,42 @@
 // Scope: Careful changes (Careful push; refusals 20, 23, 12, 21, 19). Rules: K, defined in `careful`.
 // For callers: `careful_push`, `Changed`.
 pub mod askable;
+pub mod between;
 
 use base::Answer;
 use base::Refusal;
 pub use careful_stores::push_writer::Changed;
 use record_entry::MBRPartitionEntry;
 use record_mbr::Found;
-use table::LogicalPartition;
 use table::MBR;
 use table_push::Request;
 ghost use mathlib.Core.Path.{_≡_};
 ghost use Prim.Native.Nat.{_≤_};
 ghost use lib.ListN.{length};
-ghost use Rattle.careful.specs.Stores.{lastListed};
+ghost use Rattle.careful.specs.Stores.{pushStores};
 ghost use Rattle.table.specs.Table.{logicals, most};
-ghost use Rattle.table_push.specs.Push.{laterThan, newLogical};
+ghost use Rattle.table_push.specs.Push.{placeOf, laterThan, newLogical};
 ghost use Rattle.sound.specs.Sound.{contentsOf};
 ghost use Rattle.careful.specs.Careful.{pushRefusals, pushChange, carefulPushSays};
 ghost use Rattle.careful.specs.Output.{outAfter, storesCounted};
 ghost use Rattle.careful.specs.Demand3.{PushDemand3};
-ghost use Rattle.careful_stores.specs.Behind.{changedSaid, Tells, storesBehind};
-ghost use Rattle.careful_push.specs.Change.{checksBehind};
+ghost use Rattle.careful_stores.specs.Behind.{changedSaid, Tells};
+ghost use Rattle.careful_push.specs.Change.{checksAmong};
 
-// The last logical partition; an empty slot if there is none.
-fn last_of(t: MBR) -> LogicalPartition
+// A push among those of a table: push's refusals, 12, 21, 19, else its stores.
+fn push_among(t: MBR, e: MBRPartitionEntry, q: Request, out: &mut [u8]) -> Changed
     requires { ⌜ t .count ≤ most ⌝ }
-    ensures { λ r. ⌜ r ≡ lastListed (logicals t) ⌝ }
+    ensures { λ r. ⌜ Tells r (now (out .entry)) (now (out .exit)) (checksAmong (length (now (out .entry))) q e (t .count) (logicals t)) (pushStores e (placeOf q) (logicals t) (newLogical (laterThan (t .count)) q)) ⌝ }
 {
-    let n = t.count;
-    if n == 0 {
-        return LogicalPartition::empty();
-    }
-    t.logical_partitions[n - 1]
-}
-
-// A push behind n others: push's refusals, 12, 21, 19, else its stores.
-fn push_behind(
-    e: MBRPartitionEntry,
-    n: usize,
-    last: LogicalPartition,
-    q: Request,
-    out: &mut [u8],
-) -> Changed
-    ensures { λ r. ⌜ Tells r (now (out .entry)) (now (out .exit)) (checksBehind (length (now (out .entry))) q e n last) (storesBehind e n last (newLogical (laterThan n) q)) ⌝ }
-{
-    let u = table_push::new_logical(q, e, n);
+    let u = table_push::new_logical(q, e, t.count);
     let a = u.answer;
     match a {
         Answer::Refused(k) => Changed::Refused(k),
         Answer::Done => {
             let new = u.logical;
-            careful_stores::push_stores::push_new(e, n, last, new, out)
+            let at = new.absolute_ebr_lba;
+            let b = crate::between::between_at(t, e, at.0);
+            careful_stores::push_stores::push_new(e, b, new, out)
         }
     }
 }
@@ -70,12 +55,10 @@ fn push_on(t: MBR, q: Request, out: &mut [u8]) -> Changed
     if !asked {
         return Changed::Refused(Refusal::BAD_REQUEST);
     }
-    let n = t.count;
-    let last = last_of(t);
     let header = t.header;
     match header.get_extended_partition() {
         Found::Nothing => Changed::Refused(Refusal::NO_EXTENDED),
-        Found::Entry(e) => push_behind(e, n, last, q, out),
+        Found::Entry(e) => push_among(t, e, q, out),
     }
 }
 

@@ -1,4 +1,4 @@
--- What a careful change answers, and the stores of a new partition behind others. Assumes nothing.
+-- What a careful change answers, and the stores of a new partition among others. Assumes nothing.
 use Prim.Native.Nat.{ℕ}
 use mathlib.Core.Path.{_≡_}
 use mathlib.Core.Option.{none, some}
@@ -14,6 +14,8 @@ use Rattle.extract.specs.Disk.{Store}
 use Rattle.table.specs.declared.LogicalPartition.{LogicalPartition}
 use Rattle.chain.specs.Links.{write}
 use Rattle.careful_stores.specs.Stored.{moved, storesBytes}
+use Rattle.careful_stores.specs.Linked.{linkBehind, linkedStore}
+use Rattle.careful_stores.specs.declared.push_writer.Between.{Between}
 use Rattle.careful_stores.specs.declared.push_writer.Changed.{Changed}
 use Rattle.careful_stores.specs.declared.push_writer.Changed.the-variants.{Stores, Refused}
 
@@ -26,13 +28,7 @@ changedSaid (Refused r) = refuses (r .number)
 abbrev pub Tells : Changed → List ℕ → List ℕ → List Check → List Store → Type 0
 Tells r old new cs ss = (changedSaid r ≡ answer cs (length ss)) × (new ≡ checked cs (λ k. old) (put old 0 (storesBytes ss)))
 
--- into an empty chain one record at X; else the new EBR, then the former last (rules K16 to K18)
-abbrev pub firstStores : MBRPartitionEntry → LogicalPartition → List Store
-firstStores e new = write e (moved e new) none ∷ []
-
-abbrev pub laterStores : MBRPartitionEntry → LogicalPartition → LogicalPartition → List Store
-laterStores e last new = write e new none ∷ write e last (some new) ∷ []
-
--- the stores of a new partition behind n others
-abbrev pub storesBehind : MBRPartitionEntry → ℕ → LogicalPartition → LogicalPartition → List Store
-storesBehind e n last new = pick (eqb n 0) (firstStores e new) (laterStores e last new)
+-- into an empty chain one record at X; else the new EBR with its link to what follows, then the EBR before it with a link to the new one (rules K16 to K18)
+abbrev pub storesBetween : MBRPartitionEntry → Between → LogicalPartition → List Store
+storesBetween e b new =
+    pick (eqb (b .order) 0) (write e (moved e new) none ∷ []) (linkedStore new (b .link) ∷ linkedStore (b .earlier) (linkBehind e (some new)) ∷ [])

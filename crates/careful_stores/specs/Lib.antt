@@ -1,4 +1,5 @@
-pub mod Space
 pub mod Stored
 pub mod Linked
+pub mod Order
+pub mod Space
 pub mod Behind

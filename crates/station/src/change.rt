@@ -7,6 +7,7 @@ use station_disk::other_size;
 use station_stores::output;
 use station_stores::put;
 use station_stores::save;
+use station_stores::store;
 use station_words::errors;
 use station_words::slices;
 use table_push::Request;
@@ -50,7 +51,7 @@ fn is_unchanged(t: Target, x: &[u8]) -> bool {
 }
 
 // The stores on the disk, if the extract was kept and is still the disk's.
-fn store(t: Target, x: &[u8], out: &[u8], n: usize) -> bool {
+fn is_stored(t: Target, x: &[u8], out: &[u8], n: usize) -> bool {
     if !save::save(x) {
         return false;
     }
@@ -60,12 +61,37 @@ fn store(t: Target, x: &[u8], out: &[u8], n: usize) -> bool {
     put::put_all(t.fd, t.sector, out, n)
 }
 
-// The stores that a change answered with, put on the disk or shown.
-fn carry_out(t: Target, x: &[u8], out: &[u8], n: usize) {
-    if t.dry {
-        return end(output::show_change(x, out, n));
+// The number that the new partition of a push gets: it stands behind all up to the last EBR at or below its own.
+fn number_of(x: &[u8], out: &[u8]) -> usize {
+    let r = read_table::read_from(x);
+    let t = r.table;
+    careful_push::between::order_at(t, store::lba_of(store::first(out))) + 5
+}
+
+// The last words: after a push the new partition's number, then that it is done.
+fn close(pushes: bool, x: &[u8], out: &[u8]) {
+    if pushes {
+        io::write_all(1, b"number ");
+        io::print_decimal(1, number_of(x, out) as u64);
+        io::write_all(1, b"\n");
     }
-    end(store(t, x, out, n));
+    end(true);
+}
+
+// The stores that a change answered with, put on the disk or shown.
+fn is_carried_out(t: Target, x: &[u8], out: &[u8], n: usize) -> bool {
+    if t.dry {
+        return output::show_change(x, out, n);
+    }
+    is_stored(t, x, out, n)
+}
+
+// The change that was answered, and the last words.
+fn carry_out(t: Target, pushes: bool, x: &[u8], out: &[u8], n: usize) {
+    if is_carried_out(t, x, out, n) {
+        return close(pushes, x, out);
+    }
+    end(false);
 }
 
 fn end_refused(n: u8) {
@@ -74,9 +100,9 @@ fn end_refused(n: u8) {
     io::write_all(1, b"\n");
 }
 
-fn answer(t: Target, c: Changed, x: &[u8], out: &[u8]) {
+fn answer(t: Target, pushes: bool, c: Changed, x: &[u8], out: &[u8]) {
     match c {
-        Changed::Stores(n) => carry_out(t, x, out, n),
+        Changed::Stores(n) => carry_out(t, pushes, x, out, n),
         Changed::Refused(n) => {
             errors::refused(n.number);
             end_refused(n.number);
@@ -97,7 +123,7 @@ fn changed(w: Wish, x: &[u8], out: &mut [u8]) -> Changed {
 fn on_extract(t: Target, w: Wish, x: &[u8]) {
     let mut out = [0u8; careful_stores::push_stores::STORES];
     let c = changed(w, x, &mut out);
-    answer(t, c, x, &out);
+    answer(t, !w.removes, c, x, &out);
 }
 
 // May the extended partition's first sector be written over? A boot record there is read, and nothing is lost with zeros.

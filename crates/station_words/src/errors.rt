@@ -56,7 +56,7 @@ pub fn refused(n: u8) {
 
 
 20: the table is not sound: overlapping, empty or nested partitions, or a chain out of order
-21: the start is before the end of the last logical partition
+21: there is no gap for it: it would overlap a logical partition or a boot record, or stand between the two
 
 23: type 00 or an extended type, or a geometry of more than 63 sectors",
         n as usize,

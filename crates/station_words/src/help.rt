@@ -39,7 +39,7 @@ pub fn push() {
     lines(
         b"station push DISK TYPE START SECTORS [--align N] [--geometry C/H/S] [--overwrite-first]
     [--dry-run] [--save FILE] [--in-use] [--sector N]
-  adds a logical partition behind the others; TYPE is two hex digits
+  adds a logical partition behind the others or in a gap between two, and prints its number; TYPE is two hex digits
   START is its boot record's place and SECTORS counts from there; both are rounded up
   --align N: the alignment, 2048 if not given
   --geometry C/H/S: the disk's, for the partition's addresses; none if not given

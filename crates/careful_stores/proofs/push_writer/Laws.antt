@@ -22,7 +22,8 @@ use Rattle.careful_stores.specs.Linked.{linkBehind, linkedStore}
 use Rattle.careful_stores.proofs.ebr_store.Laws.{link-none, write-linked}
 use Rattle.careful_stores.specs.declared.push_writer.Changed.{Changed}
 use Rattle.careful_stores.specs.declared.push_writer.Changed.the-variants.{Stores, Refused}
-use Rattle.careful_stores.specs.Behind.{changedSaid, Tells, storesBehind}
+use Rattle.careful_stores.specs.Behind.{changedSaid, Tells, storesBetween}
+use Rattle.careful_stores.specs.declared.push_writer.Between.{Between}
 
 -- what an answer says determines it
 pub changed-injective : (a b : Changed) → changedSaid a ≡ changedSaid b → a ≡ b
@@ -43,27 +44,24 @@ unfolding storesBytes
 two-stores d d₁ d₂ s u n h e f =
     behind d d₁ d₂ 0 storeLength (storeBytes s) (storeBytes u) n (omega arith) e f ∙ ap (λ (l : List ℕ). put d 0 (storeBytes s ++ l)) (sym (append-nil (storeBytes u)))
 
--- what is written for a first partition, and for a later one
-module _ (d : List ℕ) (e : MBRPartitionEntry) (n : ℕ) (last new : LogicalPartition) (end : MBRPartitionEntry) (none-end : end ≡ noEntry) where
-  ends : (l : LogicalPartition) → linkedStore l end ≡ write e l none
-  ends l = ap (linkedStore l) (none-end ∙ sym (link-none e)) ∙ sym (write-linked e l none)
+-- what is written for a first partition, and for one among others
+module _ (d : List ℕ) (e : MBRPartitionEntry) (b : Between) (new : LogicalPartition) where
+  pub first-stored : (d₁ : List ℕ) (first : LogicalPartition) (end : MBRPartitionEntry) → end ≡ noEntry → b .order ≡ 0 → first ≡ moved e new → d₁ ≡ put d 0 (storeBytes (linkedStore first end))
+      → (gives 1 ≡ gives (length (storesBetween e b new))) × (d₁ ≡ put d 0 (storesBytes (storesBetween e b new)))
+  first-stored d₁ first end n z m w =
+      let ends : linkedStore (moved e new) end ≡ write e (moved e new) none = ap (linkedStore (moved e new)) (n ∙ sym (link-none e)) ∙ sym (write-linked e (moved e new) none) in
+      rw (eq-eqb (b .order) 0 z)
+      (refl, w ∙ ap (λ (s : Store). put d 0 (storeBytes s)) (ap (λ (l : LogicalPartition). linkedStore l end) m ∙ ends) ∙ one-store d (write e (moved e new) none))
 
-  pub first-stored : (d₁ : List ℕ) (first : LogicalPartition) → n ≡ 0 → first ≡ moved e new → d₁ ≡ put d 0 (storeBytes (linkedStore first end))
-      → (gives 1 ≡ gives (length (storesBehind e n last new))) × (d₁ ≡ put d 0 (storesBytes (storesBehind e n last new)))
-  first-stored d₁ first z m w =
-      rw (eq-eqb n 0 z)
-      (refl, w ∙ ap (λ (s : Store). put d 0 (storeBytes s)) (ap (λ (l : LogicalPartition). linkedStore l end) m ∙ ends (moved e new)) ∙ one-store d (write e (moved e new) none))
-
-  pub later-stored : (d₁ d₂ : List ℕ) (link : MBRPartitionEntry) → (n ≡ 0 → ⊥) → link ≡ linkBehind e (some new) → roomNeeded ≤ length d
-      → (d₁ ≡ put d 0 (storeBytes (linkedStore new end))) × (length (storeBytes (linkedStore new end)) ≡ storeLength) → d₂ ≡ put d₁ storeLength (storeBytes (linkedStore last link))
-      → (gives 2 ≡ gives (length (storesBehind e n last new))) × (d₂ ≡ put d 0 (storesBytes (storesBehind e n last new)))
+  pub later-stored : (d₁ d₂ : List ℕ) (link : MBRPartitionEntry) → (b .order ≡ 0 → ⊥) → link ≡ linkBehind e (some new) → roomNeeded ≤ length d
+      → (d₁ ≡ put d 0 (storeBytes (linkedStore new (b .link)))) × (length (storeBytes (linkedStore new (b .link))) ≡ storeLength)
+      → d₂ ≡ put d₁ storeLength (storeBytes (linkedStore (b .earlier) link))
+      → (gives 2 ≡ gives (length (storesBetween e b new))) × (d₂ ≡ put d 0 (storesBytes (storesBetween e b new)))
   later-stored d₁ d₂ link z k h w v =
-      let a : linkedStore last link ≡ write e last (some new) = ap (linkedStore last) k ∙ sym (write-linked e last (some new)) in
-      rw (ne-eqb n 0 z) (
+      rw (ne-eqb (b .order) 0 z) (
         refl,
-        two-stores d d₁ d₂ (linkedStore new end) (linkedStore last link) (w .1) h (w .0) v
-            ∙ ap (λ (s : Store). put d 0 (storesBytes (s ∷ linkedStore last link ∷ []))) (ends new)
-            ∙ ap (λ (s : Store). put d 0 (storesBytes (write e new none ∷ s ∷ []))) a,
+        two-stores d d₁ d₂ (linkedStore new (b .link)) (linkedStore (b .earlier) link) (w .1) h (w .0) v
+            ∙ ap (λ (x : MBRPartitionEntry). put d 0 (storesBytes (linkedStore new (b .link) ∷ linkedStore (b .earlier) x ∷ []))) k,
       )
 
 -- the first refusal decides

@@ -17,8 +17,8 @@ same-length c = search needs
 
 returns : tie.Need-returns
 returns c =
-    let a = c .before .before .before .before .before .before .before .before .args in
-    first-stored (a .out .now) (a .e) (a .n) (a .last) (a .new) _ (c .before .before .before .before .before .before .empty .ensures) _ _ (c .before .before .before .before .before .if1 .taken) (c .before .before .before .before .move-first .ensures) (c .before .before .put-ebr .ensures .0)
+    let a = c .before .before .before .before .before .before .before .before .before .args in
+    first-stored (a .out .now) (a .e) (a .b) (a .new) _ _ _ (c .before .before .before .before .before .before .before .empty .ensures) (c .before .before .before .before .before .if1 .taken) (c .before .before .before .before .move-first .ensures) (c .before .before .put-ebr .ensures .0)
 
 link-to-requires : tie.Need-link-to-requires
 link-to-requires c κs = search needs
@@ -34,8 +34,8 @@ same-length-2 c = search needs
 
 returns-2 : tie.Need-returns-2
 returns-2 c =
-    let a = c .before .before .before .before .before .before .before .before .before .before .before .before .args in
-    later-stored (a .out .now) (a .e) (a .n) (a .last) (a .new) _ (c .before .before .before .before .before .before .before .before .before .before .empty .ensures) _ _ _ (c .before .before .before .before .before .before .before .before .before .if1 .left) (c .before .before .before .before .before .before .before .before .link-to .ensures) (c .before .before .before .before .before .before .before .before .before .before .before .before .pre) (c .before .before .before .before .before .before .put-ebr2 .ensures) (c .before .before .put-ebr3 .ensures .0)
+    let a = c .before .before .before .before .before .before .before .before .before .before .before .before .before .before .before .args in
+    later-stored (a .out .now) (a .e) (a .b) (a .new) _ _ _ (c .before .before .before .before .before .before .before .before .before .before .before .if1 .left) (c .before .before .before .before .before .before .before .before .link-to .ensures) (c .before .before .before .before .before .before .before .before .before .before .before .before .before .before .before .pre) (c .before .before .before .before .before .before .put-ebr2 .ensures) (c .before .before .put-ebr3 .ensures .0)
 
 pub put-push-spec : {M : Type 1} → statement M
 put-push-spec =

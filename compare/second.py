@@ -6,11 +6,12 @@ The commands are those of ../second/answers.py and, beside them, commands on T, 
       partition its entry, EBR place, link sectors or none, first link CHS, last link CHS or none, CODE
 
 CODE is a number from 0 to 255: the code's first byte, and three times it, mod 256, its last; else it is zeros.
-A command t_NAME is NAME on T, without the six numbers in front; t_push is push_all. Three are only here:
+A command t_NAME is NAME on T, without the six numbers in front; t_push is push_all. Four are only here:
 
     t_write           writes T to the extract X, out to O: what it says, the table, O's length and checksum
     t_write_header    the same for T's header alone, without the table
     t_sound           is T sound?
+    after_push        with the numbers of careful_push: the table afterwards, with that alignment and geometry
 """
 import os
 import re
@@ -139,7 +140,12 @@ def t_sound(s):
     return a.truth(m.sound(s.t))
 
 
-for f in (t_update_from, t_write, t_write_header, t_sound):
+def after_push(s, align, cylinders, heads, sectors, *request):
+    geometry = m.Geometry(cylinders, heads, sectors)
+    return a.table_text(m.careful_push(s.x, align, geometry, *request, bytearray(m.STORES)).table)
+
+
+for f in (t_update_from, t_write, t_write_header, t_sound, after_push):
     a.COMMANDS[f.__name__] = f
 
 if __name__ == "__main__":

@@ -3,6 +3,7 @@
 
 use mbrman::MBR;
 
+use crate::adapter::Extract;
 use crate::block::{self, BLOCK};
 use crate::c::*;
 use crate::given::Given;
@@ -12,6 +13,9 @@ type Said = Option<String>;
 
 /// A lent output is filled with this, so that a byte that should stay is seen to stay.
 const FILL: u8 = 0xe7;
+
+/// Bytes of a store.
+const STORE: usize = 516;
 
 /// An answer of 64 bits: the value, or a refusal's number in the upper half.
 fn packed(answer: u64, shown: impl Fn(u32) -> String) -> String {
@@ -94,6 +98,7 @@ impl Archive {
             "extract_lay" => self.lay(w),
             "extract_find" => self.look_up(w.u32()),
             "careful_push" => self.careful_push(w),
+            "after_push" => self.after_push(w),
             "careful_remove" => {
                 let (x, o, number) = (&self.given.x, &mut self.given.o, w.word().parse::<u32>().ok()?);
                 let answer = unsafe { cv_careful_remove(x.as_ptr(), x.len(), number, o.as_mut_ptr(), o.len()) };
@@ -120,6 +125,28 @@ impl Archive {
             cv_careful_push(x.as_ptr(), x.len(), align, cylinders, heads, track, sys, start, sectors, o.as_mut_ptr(), o.len())
         };
         self.lent(answer)
+    }
+
+    /// The table that is read once the stores of a careful push are laid over X, with the alignment and geometry of the push.
+    fn after_push(&mut self, w: Words) -> Said {
+        let mut numbers = Words(w.0.clone());
+        let given = std::mem::replace(&mut self.given.o, vec![FILL; 2 * STORE]);
+        let said = self.careful_push(w)?;
+        let stores = std::mem::replace(&mut self.given.o, given);
+        if said.starts_with("refused") {
+            return Some(said.split(' ').take(2).collect::<Vec<_>>().join(" "));
+        }
+        let n: usize = said.split(' ').next()?.parse().ok()?;
+        let mut disk = Extract::of(&self.given.x)?;
+        for store in stores.chunks(STORE).take(n) {
+            disk.records.insert(u32::from_le_bytes(store[..4].try_into().unwrap()), store[4..].to_vec());
+        }
+        if disk.records.len() > 64 {
+            return None;
+        }
+        let (align, cylinders, heads, sectors) = (numbers.u32(), numbers.u16(), numbers.u8(), numbers.u8());
+        let t = read(&disk.bytes()).expect("a disk after a careful push is read");
+        Some(text::table(&MBR { align, cylinders, heads, sectors, ..t }))
     }
 
     fn lay(&mut self, mut w: Words) -> Said {

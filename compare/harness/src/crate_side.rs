@@ -94,6 +94,7 @@ impl Crate {
                 let x = self.given.o[..w.usize()].to_vec();
                 said(self.read(&x)?.map(|t| text::table(&t)))
             }
+            "after_push" => self.after_push(w),
             _ if ["ebr_", "extract_", "careful_"].iter().any(|p| word.starts_with(p)) => None,
             _ => self.on_read_table(word, w),
         }
@@ -290,6 +291,20 @@ impl Crate {
         })
     }
 
+    /// The table after a careful push, as document 02 has it by the crate: what it reads, its push, the last partition moved to
+    /// its place in the order, the first-place rule.
+    fn after_push(&mut self, mut w: Words) -> Said {
+        let (align, cylinders, heads, sectors) = (w.u32(), w.u16(), w.u8(), w.u8());
+        let t = match self.read(&self.given.x.clone())? {
+            Ok(t) => MBR { align, cylinders, heads, sectors, ..t },
+            Err(r) => return Some(refused(&r)),
+        };
+        Some(match self.push(&t, &mut w)? {
+            Ok((after, _)) => text::table(&in_place(after)),
+            Err(r) => refused(&r),
+        })
+    }
+
     /// The crate keeps its sector size; where the extract's is another one it is given that one first.
     fn update_from(&mut self, t: MBR, x: &[u8]) -> Said {
         if t.logical_partitions.len() > LOGICALS {
@@ -377,6 +392,27 @@ impl Crate {
         self.given.o[..bytes.len()].copy_from_slice(&bytes);
         Ok(bytes.len())
     }
+}
+
+/// The table after a push, the last partition moved behind those whose EBRs are at or below its own; then the first one's EBR
+/// at the extended partition's start, without link fields.
+fn in_place(mut t: MBR) -> MBR {
+    let new = t.logical_partitions.pop().expect("push has put one");
+    let at = t.logical_partitions.iter().filter(|l| l.absolute_ebr_lba <= new.absolute_ebr_lba).count();
+    t.logical_partitions.insert(at, new);
+    let extended = text::entries(&t.header).into_iter().find(|e| e.is_extended()).expect("push asks for one").clone();
+    let first = &mut t.logical_partitions[0];
+    first.absolute_ebr_lba = extended.starting_lba;
+    (first.ebr_sectors, first.ebr_first_chs, first.ebr_last_chs) = (None, extended.first_chs, None);
+    t
+}
+
+/// Is this a refusal that the careful push has and the crate's reading and push have not?
+pub fn careful_alone(word: &str, crate_said: &str, other: &str) -> bool {
+    let refused = |said: &str, numbers: &[&str]| numbers.iter().any(|n| said.strip_prefix("refused ") == Some(n));
+    let before_push = refused(other, &["20", "23"]) && !refused(crate_said, &["2", "3", "4", "5"]);
+    let after_push = refused(other, &["12", "21"]) && !crate_said.starts_with("refused");
+    word == "after_push" && (before_push || after_push)
 }
 
 /// Edits of three numbers each: a partition's number (0 is the header's signature), a field and its value. See

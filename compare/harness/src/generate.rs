@@ -116,10 +116,12 @@ fn gap(rng: &mut Rng, align: u32) -> u64 {
     u64::from(if rng.one_in(2) { 0 } else { align * rng.below(4) })
 }
 
-/// The logical partitions of an extended partition at X, and its end. Now and then the first is an EBR without a partition.
+/// The logical partitions of an extended partition at X, and its end. Now and then the first is an EBR without a partition, and
+/// now and then there are holes, as where partitions were removed.
 fn chain(rng: &mut Rng, x: u64, n: u32, align: u32) -> (Vec<LogicalPartition>, u64) {
     let mut found = Vec::new();
     let mut at = x;
+    let holes = rng.one_in(3);
     for k in 0..n {
         let empty = k == 0 && rng.one_in(5);
         let start = at + if empty { 0 } else if rng.one_in(4) { 1 } else { u64::from(align) };
@@ -137,6 +139,9 @@ fn chain(rng: &mut Rng, x: u64, n: u32, align: u32) -> (Vec<LogicalPartition>, u
             bootstrap_code,
         });
         at += link + gap(rng, align);
+        if holes && rng.one_in(2) {
+            at += u64::from(align) * u64::from(2 + rng.below(4));
+        }
     }
     (found, at + size(rng, align))
 }
@@ -149,7 +154,7 @@ fn sound(rng: &mut Rng, most: u32) -> MBR {
     let n = if rng.one_in(2) { n } else { rng.below(u64::from(most) + 1) };
     // Where the first partition starts: most often low, else so high that the last ends near 2^32.
     let high = rng.one_in(6);
-    let room = 4 * 12 * 16384 + 32 * 12 * u64::from(align.max(200));
+    let room = 4 * 12 * 16384 + 32 * 20 * u64::from(align.max(200));
     let low = u64::from(align) * u64::from(1 + rng.below(3));
     let mut at = if high { u64::from(BIG) - room } else { low };
     let mut header = MBRHeader::new([rng.byte(), rng.byte(), rng.byte(), rng.byte()]);
@@ -707,7 +712,15 @@ fn written_cases(rng: &mut Rng, out: &mut Cases) {
     }
 }
 
-/// A request of a careful push: near the place behind the last partition, or anywhere.
+/// The end of a logical partition, that of one without sectors being behind its EBR, and the EBR of the next one, or the
+/// extended partition's end.
+fn space_behind(t: &MBR, i: usize, end: u32) -> (u32, u32) {
+    let l = &t.logical_partitions[i];
+    let last = l.partition.starting_lba.wrapping_add(l.partition.sectors.max(u32::from(!l.partition.is_used())));
+    (last, t.logical_partitions.get(i + 1).map_or(end, |m| m.absolute_ebr_lba))
+}
+
+/// A request of a careful push: near the place behind a partition, half of the time the last one, or anywhere.
 fn request(rng: &mut Rng, t: &MBR) -> String {
     let align = match rng.below(6) {
         0 => rng.of(&[1, 2, 8, 63, 64, 2048]),
@@ -716,7 +729,12 @@ fn request(rng: &mut Rng, t: &MBR) -> String {
     };
     let extended = text::entries(&t.header).into_iter().find(|e| e.is_extended());
     let (x, end) = extended.map_or((0, 0), |e| (e.starting_lba, e.starting_lba.wrapping_add(e.sectors)));
-    let last = t.logical_partitions.last().map_or(x, |l| l.partition.starting_lba.wrapping_add(l.partition.sectors));
+    let n = t.logical_partitions.len();
+    let (last, limit) = match n {
+        0 => (x, end),
+        _ if rng.one_in(2) => space_behind(t, n - 1, end),
+        _ => space_behind(t, rng.below(n as u64) as usize, end),
+    };
     let start = match rng.below(4) {
         0 => near(rng, t),
         1 => last.wrapping_add(align.wrapping_mul(rng.below(4))).wrapping_add(rng.of(&[0, 1, BIG])),
@@ -724,7 +742,7 @@ fn request(rng: &mut Rng, t: &MBR) -> String {
     };
     let sectors = match rng.below(6) {
         0 => near(rng, t),
-        5 => end.wrapping_sub(start).wrapping_add(rng.of(&[0, 1, BIG])),
+        4 | 5 => limit.wrapping_sub(start).wrapping_add(rng.of(&[0, 0, 1, BIG])),
         1 => align.wrapping_mul(1 + rng.below(6)).wrapping_add(rng.of(&[0, 1, BIG])),
         _ => align.wrapping_mul(2 + rng.below(2)),
     };
@@ -797,7 +815,9 @@ fn careful_cases(rng: &mut Rng, out: &mut Cases) {
         let room = if rng.one_in(8) { rng.of(&[1031, 1031, 516, any]) } else { 1032 + rng.below(9) };
         out.lines.push(format!("o {room} {}", rng.byte()));
         if k % 2 == 0 || k == 9 {
-            out.case(format!("careful_push {}", request(rng, &t)));
+            let request = request(rng, &t);
+            out.case(format!("careful_push {request}"));
+            out.case(format!("after_push {request}"));
         } else {
             let inside = 5 + rng.below(u64::from(n.max(1)));
             let number = rng.of(&[inside, inside, 5, n + 4, n + 5, rng.0 as u32 % 7, BIG]);

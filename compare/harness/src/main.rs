@@ -32,7 +32,7 @@ use std::collections::BTreeMap;
 use std::io::{Read, Write};
 use std::process::ExitCode;
 
-use crate_side::Crate;
+use crate_side::{careful_alone, Crate};
 use ours::Ours;
 
 fn main() -> ExitCode {
@@ -160,6 +160,7 @@ fn held(cases: &str, answers: &str, bin: Option<&str>) -> ExitCode {
         match said {
             None => tally.count(word, 1),
             Some(said) if theirs.strip_prefix(word) == Some(&format!(" {said}")) => tally.count(word, 0),
+            Some(said) if careful_alone(word, &said, &theirs[word.len() + 1..]) => tally.count(word, 1),
             Some(said) => tally.other(line, &format!("(crate) {word} {said}"), &format!("(second) {theirs}")),
         }
     }
@@ -184,7 +185,7 @@ fn ours(bin: &str, seed: u64, count: u64) -> ExitCode {
                 None if line.starts_with("t ") => {}
                 None => programs.change(line),
                 Some((word, None)) => tally.count(word, 1),
-                Some((word, _)) if word.starts_with("t_") => {}
+                Some((word, _)) if word.starts_with("t_") || word == "after_push" => {}
                 Some((word, Some(said))) => {
                     tally.count(word, 0);
                     programs.ask(word, line, format!("{word} {said}"));
@@ -209,6 +210,9 @@ fn in_one(seed: u64, count: u64) -> ExitCode {
         for line in &cases.lines {
             let (theirs, ours) = (side.answer(line), ours.answer(line));
             let (Some((word, Some(theirs))), Some((_, Some(ours)))) = (theirs, ours) else { continue };
+            if careful_alone(word, &theirs, &ours) {
+                continue;
+            }
             held += 1;
             if theirs != ours {
                 tally.other(line, &format!("(archive) {word} {ours}"), &format!("(crate) {word} {theirs}"));

@@ -2,12 +2,13 @@
 
 SFDISK and STRACE may be empty. With quick there are fewer images, which takes some seconds.
 
-Images with 0 to 24 logical partitions are made by sfdisk, images of every sector size by the second program. Each change is
-carried out whole, and then again and again with the program stopped before and after each call that writes, and with calls
-that fail or are cut short: from one on, one alone, and one with the program stopped right after it. Each time the image must
-read as the table before or the table after: by the program's own list, by the second program and, where it made the image,
-by sfdisk. One kind of stop is only counted: the sector that makes the change, cut within its record, and the program stopped
-before it puts the sector back. A store is one sector and the medium writes it whole or not at all; nothing can mend half of one.
+Images with 0 to 24 logical partitions are made by sfdisk, images of every sector size by the second program. Zones are pushed
+behind the others and into gaps: where sfdisk's image lost a zone, and on the second program's. Each change is carried out whole,
+and then again and again with the program stopped before and after each call that writes, and with calls that fail or are cut
+short: from one on, one alone, and one with the program stopped right after it. Each time the image must read as the table before
+or the table after: by the program's own list, by the second program and, where it made the image, by sfdisk. One kind of stop is
+only counted: the sector that makes the change, cut within its record, and the program stopped before it puts the sector back. A
+store is one sector and the medium writes it whole or not at all; nothing can mend half of one.
 """
 import fcntl
 import os
@@ -30,7 +31,7 @@ SFDISK = sys.argv[3] if len(sys.argv) > 3 and sys.argv[3] else None
 STRACE = sys.argv[4] if len(sys.argv) > 4 and sys.argv[4] else None
 QUICK = sys.argv[5:] == ["quick"]
 WRITERS = "write,writev,pwrite64,pwritev,pwritev2,fsync,fdatasync,ftruncate,fallocate,copy_file_range,sendfile,mmap"
-counts = {"changes": 0, "stops": 0, "refused": 0, "half": 0, "other": 0, "traced": 0, "damaged": 0}
+counts = {"changes": 0, "gaps": 0, "stops": 0, "refused": 0, "half": 0, "other": 0, "traced": 0, "damaged": 0}
 
 
 def fail(what, *more):
@@ -153,13 +154,21 @@ def attempts(calls, size):
                 yield from (("cut", at, cut), ("once", at, cut), ("torn", at, cut))
 
 
-def traced(args, image, stores):
+def last_words(args, made):
+    """How the program ends a change: a push with the number of the new partition, whose EBR is the first store."""
+    if args[0] != "push":
+        return "done\n"
+    places = [l.absolute_ebr_lba for l in made.table.logicals]
+    return f"number {5 + places.index(made.stores[0][0])}\ndone\n"
+
+
+def traced(args, image, made):
     """The calls that could write to the disk, by the system's own trace: each store, then a flush that answers 0."""
     with tempfile.TemporaryDirectory() as folder:
         done = locked(image.path, [STRACE, "-f", "-o", folder + "/trace", "-e", "trace=" + WRITERS, PROGRAM, *map(str, args),
                                    "--sector", str(image.size)])
         lines = Path(folder + "/trace").read_text().splitlines()
-    if done.stdout != b"done\n":
+    if done.stdout.decode() != last_words(args, made):
         fail("done under strace", args, done)
     seen = []
     for line in lines:
@@ -170,7 +179,7 @@ def traced(args, image, stores):
             continue
         place = call[2].rsplit(", ", 2)[1:] if call[1] == "pwrite64" else []
         seen.append((call[1], *map(int, place), call[3]))
-    want = [w for lba, _ in stores for w in (("pwrite64", image.size, lba * image.size, str(image.size)), ("fsync", "0"))]
+    want = [w for lba, _ in made.stores for w in (("pwrite64", image.size, lba * image.size, str(image.size)), ("fsync", "0"))]
     if seen != want:
         fail("the trace has each store, and a flush that answers 0 before the next", args, lines)
     counts["traced"] += 1
@@ -187,10 +196,10 @@ def dry(image, args, made, before, sfdisk):
                                                  for at in range(0, 512, 16) if any(record[at:at + 16]))
                      for lba, record in made.stores)
     want = "before\n" + before[1] + stores + "after\n"
-    text = done.stdout.decode()
-    if not text.startswith(want) or not text.endswith("\ndone\n") or views(image, sfdisk) != before:
-        fail("a dry run prints the table before, the stores and the table after, and changes nothing", args, done)
-    return text[len(want):-len("done\n")]
+    text, words = done.stdout.decode(), last_words(args, made)
+    if not text.startswith(want) or not text.endswith("\n" + words) or views(image, sfdisk) != before:
+        fail("a dry run prints the table before, the stores, the table after and the last words, and changes nothing", args, done)
+    return text[len(want):-len(words)]
 
 
 def whole(image, args, made, kept):
@@ -199,7 +208,7 @@ def whole(image, args, made, kept):
         log = folder + "/log"
         done = run(*args, "--sector", image.size, log=log)
         trace = [line.split() for line in Path(log).read_text().splitlines()]
-    if done.stdout != b"done\n" or done.stderr and "--overwrite-first" not in args:
+    if done.stdout.decode() != last_words(args, made) or done.stderr and "--overwrite-first" not in args:
         fail("done", args, done)
     want = [w for lba, _ in made.stores for w in (["pwrite", str(lba * image.size), str(image.size)], ["fsync", "0", "0"])]
     if trace != want:
@@ -249,7 +258,7 @@ def try_change(image, args, made, sfdisk=False):
         fail("the table after", args)
     if STRACE:
         put_back(image, kept)
-        traced(args, image, made.stores)
+        traced(args, image, made)
     # Under an emulator each run takes long.
     for how, at, cut in list(attempts(calls, image.size))[::5 if QUICK and x86.KIT else 1]:
         put_back(image, kept)
@@ -272,6 +281,8 @@ def push(image, request, sfdisk=False):
     align, geometry, sys_, start, sectors = request
     made = answered(m.careful_push, image.extract(), *request, bytearray(1032))
     args = ["push", image.path, f"{sys_:02X}", start, sectors, "--align", align, "--geometry", "/".join(map(str, geometry))]
+    if not isinstance(made, int):
+        counts["gaps"] += replay.in_a_gap(m.read_table(image.extract()), made)
     if is_damaged(image):
         kept = image.table()
         said = run(*args, "--sector", image.size)
@@ -321,7 +332,7 @@ def from_sfdisk(folder, n):
 
 
 def with_sfdisk(folder):
-    for n in (0, 1, 2, 24) if QUICK else range(25):
+    for n in (0, 1, 3, 24) if QUICK else range(25):
         progress(f"station: image {n} of 24 made by sfdisk, {counts['stops']} stops")
         image = from_sfdisk(folder, n)
         # Without zones sfdisk leaves a first EBR without a partition, which is counted.
@@ -334,6 +345,8 @@ def with_sfdisk(folder):
             remove(image, number, True)
         if n == 0:
             behind_empty(image)
+        if n in (3, 4, 12, 23, 24):
+            into_gap(image, 5 + n // 2)
         os.unlink(image.path)
 
 
@@ -345,6 +358,19 @@ def behind_empty(image):
     push(image, (2048, m.Geometry(0, 0, 0), 0x83, 14336, 4096), True)
     for number in (5, 6):
         remove(image, number, True)
+
+
+def into_gap(image, number):
+    """A zone between two others removed; then pushes into the gap: all of it, its beginning, its end, and such as do not fit."""
+    for lba, record in m.careful_removal(image.extract(), number, bytearray(1032)).stores:
+        image.put(lba, record)
+    logicals = m.read_table(image.extract()).logicals
+    low, high = m.end_of(logicals, number - 6), logicals[number - 5].absolute_ebr_lba
+    push(image, (1, m.Geometry(0, 0, 0), 0x83, low, high - low), True)
+    push(image, (2, m.Geometry(1023, 255, 63), 0x07, low, 8), True)
+    push(image, (1, m.Geometry(0, 0, 0), 0x82, high - 3, 3), True)
+    for start, sectors in ((low - 1, 2), (low, high - low + 1), (high, 2)):
+        push(image, (1, m.Geometry(0, 0, 0), 0x83, start, sectors), True)
 
 
 def from_second(folder, rng):
@@ -420,8 +446,8 @@ if __name__ == "__main__":
             with_sfdisk(folder)
         with_second(folder, 4 if QUICK else 60)
     progress("")
-    print("station: {changes} changes, whole and then stopped {stops} times, and {refused} refusals hold; {damaged} pushes stopped "
-          "before a damaged first sector".format(**counts))
+    print("station: {changes} changes, {gaps} of them pushes into a gap, whole and then stopped {stops} times, and {refused} "
+          "refusals hold; {damaged} pushes stopped before a damaged first sector".format(**counts))
     print("station: {half} of the stops left half a record in the sector that makes the change; {other} of them read as a third "
           "table".format(**counts))
     print("station: {traced} changes traced by strace: each store, then a flush answered 0, then the next".format(**counts)

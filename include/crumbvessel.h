@@ -50,8 +50,9 @@ enum cv_refusal {
     CV_NO_LINK = 18,           /* a later logical partition lacks its link fields */
     CV_OUTPUT_SHORT = 19,      /* the lent output is too short */
     CV_NOT_SOUND = 20,         /* careful: the table is not sound */
-    CV_BEFORE_LAST = 21,       /* careful push starts before the last partition's end, which for a first EBR without a
-                                * partition is the sector behind it */
+    CV_NO_GAP = 21,            /* careful push: no gap for it there: it would overlap a partition or an EBR, or stand before
+                                * the first or between an EBR and its partition */
+    CV_BEFORE_LAST = 21,       /* the former name of CV_NO_GAP */
     CV_TOO_MANY_RECORDS = 22,  /* one record more than CV_RECORDS */
     CV_BAD_REQUEST = 23,       /* careful push of type 0 or extended, or with more than 63 sectors in a geometry */
     /* none of the library's own: */
@@ -168,7 +169,9 @@ uint64_t cv_listing(const uint8_t *x, size_t x_length, uint8_t *out, size_t out_
 /* Careful changes: the stores stand in `out` in the order in which they are to be written, each on the disk before the
  * next one is. */
 
-/* Careful push: the number of stores; 1 to 7 of reading, 20, 23, push's, 12, 21, 19. `track` is the geometry's sectors. */
+/* Careful push: the number of stores; 1 to 7 of reading, 20, 23, push's, 12, 21, 19. `track` is the geometry's sectors.
+ * The new partition goes behind the others or into a gap between two: its number is 5 and as many more as there are EBRs
+ * before its own, and the numbers behind it grow by one. */
 uint64_t cv_careful_push(const uint8_t *x, size_t x_length, uint32_t align, uint16_t cylinders, uint8_t heads,
                          uint8_t track, uint8_t type, uint32_t start, uint32_t sectors, uint8_t *out, size_t out_length);
 /* Careful removal of logical partition `number`, 5 and up: the number of stores; 1 to 7 of reading, 20, 17, 19. A first EBR

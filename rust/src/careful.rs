@@ -24,8 +24,9 @@ pub struct Request {
 /// before or the one after, provided that the medium stores the first 512 bytes of a sector whole or not at all. The
 /// stores are put one by one, each on the medium and read back before the next. Answers the table as it reads afterwards.
 ///
-/// Where the last partition is a first EBR without a partition, its end, before which no push may start (21), is the sector
-/// behind that EBR.
+/// The new partition goes behind the others or into a gap between two: it starts at or after the end of the one before
+/// it, which for a first EBR without a partition is the sector behind that EBR, and ends by the EBR of the next (21).
+/// The numbers of the partitions behind it grow by one.
 ///
 /// # Errors
 /// Reading's, 20, 23, push's, 12, 21, and then nothing was written. I/O: after a write that fails the sector's old bytes

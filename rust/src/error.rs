@@ -62,7 +62,8 @@ refusals! {
     18 MissingLinkFields "a later logical partition lacks its link fields";
     19 OutputTooShort "the lent output is too short";
     20 NotSound "the table on the disk is not sound";
-    21 StartsBeforeLastEnd "the new partition starts before the end of the last one";
+    21 NoGap "no gap for the new partition there: it would overlap a partition or an EBR, or stand before the first or \
+              between an EBR and its partition";
     22 TooManyRecords "more than 64 records";
     23 BadRequest "a careful push of type 0 or extended, or with more than 63 sectors in a geometry";
 }

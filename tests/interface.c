@@ -1,5 +1,5 @@
-/* Uses every function of include/crumbvessel.h on document 01's disk K and its numbers, and on K with a first EBR that has no
- * partition. Prints what fails. */
+/* Uses every function of include/crumbvessel.h on document 01's disk K and its numbers, on K with a first EBR that has no
+ * partition, and on K with a gap between two zones. Prints what fails. */
 #include <stdio.h>
 #include <string.h>
 
@@ -128,7 +128,7 @@ static void careful_refusals(void)
     IS(push(16384, 4097, out), REFUSED(CV_AFTER_END));
     IS(push(16385, 4096, out), REFUSED(CV_NEAR_END));
     IS(push(2048, 4096, out), REFUSED(CV_BEFORE_EXTENDED));
-    IS(push(6144, 4096, out), REFUSED(CV_BEFORE_LAST));
+    IS(push(6144, 4096, out), REFUSED(CV_NO_GAP));
     IS(push(0, 4096, out), REFUSED(CV_ARITHMETIC));
     IS(push(8192, 2048, out), REFUSED(CV_TOO_FEW_SECTORS));
     IS(cv_careful_push(k, sizeof k, 2048, 0, 0, 0, 0, 8192, 4096, out, sizeof out), REFUSED(CV_BAD_REQUEST));
@@ -187,8 +187,8 @@ static void careful_empty_first(void)
     IS(cv_listing(e, sizeof e, list, sizeof list), sizeof text - 1);
     IS(memcmp(list, text, sizeof text - 1), 0);
     memset(out, 7, sizeof out);
-    IS(cv_careful_push(e, sizeof e, 2048, 0, 0, 0, 0x83, 4096, 4096, out, sizeof out), REFUSED(CV_BEFORE_LAST));
-    IS(cv_careful_push(e, sizeof e, 1, 0, 0, 0, 0x83, 4096, 2, out, sizeof out), REFUSED(CV_BEFORE_LAST));
+    IS(cv_careful_push(e, sizeof e, 2048, 0, 0, 0, 0x83, 4096, 4096, out, sizeof out), REFUSED(CV_NO_GAP));
+    IS(cv_careful_push(e, sizeof e, 1, 0, 0, 0, 0x83, 4096, 2, out, sizeof out), REFUSED(CV_NO_GAP));
     IS(cv_careful_push(e, sizeof e, 1, 0, 0, 0, 0x83, 4097, 2, out, sizeof out - 1), REFUSED(CV_OUTPUT_SHORT));
     IS(cv_careful_remove(e, sizeof e, 6, out, sizeof out), REFUSED(CV_NO_SUCH_LOGICAL));
     IS(all(out, sizeof out, 7), true);
@@ -221,6 +221,78 @@ static void careful_empty_first(void)
     memset(two + 36 + 1024 + 446, 0, 16);
     IS(get32(two + 32), 6144);
     IS(cv_careful_remove(two, sizeof two, 5, out, sizeof out), REFUSED(CV_NOT_SOUND));
+}
+
+/* The extract with the stores of a careful change laid over it in order; answers its length. */
+static size_t laid(const uint8_t *x, size_t n, const uint8_t *stores, unsigned count, uint8_t *to)
+{
+    static uint8_t from[CV_EXTRACT(4)];
+    memcpy(to, x, n);
+    for (unsigned i = 0; i < count; i++) {
+        const uint8_t *s = stores + CV_STORE * i;
+        memcpy(from, to, n);
+        n = cv_value(cv_lay_over(from, n, get32(s), s + 4, 512, to, CV_EXTRACT(4)));
+    }
+    return n;
+}
+
+/* Disk K with zones at 6,144, 10,240 and 14,336, of which the middle one is removed: 8,192 to 12,288 is a gap. */
+static void careful_gaps(void)
+{
+    static const char before[] =
+        "disk 20480 align 2048 logical 2\n1 05 00 4096 16384\n5 83 00 6144 2048\n6 83 00 14336 2048\n";
+    static const char after[] = "disk 20480 align 2048 logical 3\n1 05 00 4096 16384\n5 83 00 6144 2048\n"
+                                "6 07 00 10240 2048\n7 83 00 14336 2048\n";
+    /* align, start, sectors: on an EBR, in a zone, between the two, a sector too early or too long, or so once rounded */
+    static const uint32_t none[][3] = {
+        {2048, 4096, 4096}, {2048, 6144, 4096},  {2048, 8193, 4096},
+        {2048, 8192, 4097}, {2048, 12288, 4096}, {2048, 14336, 4096},
+        {1, 4096, 2},       {1, 4097, 2},        {1, 6143, 2},
+        {1, 6144, 2},       {1, 8191, 2},        {1, 8192, 4097},
+        {1, 12287, 2},      {1, 12288, 2},       {1, 12289, 2},
+        {1, 14335, 2},      {1, 16383, 2},       {1, 4096, 16384},
+    };
+    static uint8_t one[CV_EXTRACT(4)], two[CV_EXTRACT(4)], x[CV_EXTRACT(4)], y[CV_EXTRACT(4)];
+    uint8_t out[CV_STORES], list[CV_LISTING];
+    IS(push(8192, 4096, out), 2);
+    IS(laid(k, sizeof k, out, 2, one), CV_EXTRACT(3));
+    IS(cv_careful_push(one, CV_EXTRACT(3), 2048, 0, 0, 0, 0x83, 12288, 4096, out, sizeof out), 2);
+    IS(laid(one, CV_EXTRACT(3), out, 2, two), sizeof two);
+    IS(cv_careful_remove(two, sizeof two, 6, out, sizeof out), 1);
+    IS(laid(two, sizeof two, out, 1, x), sizeof x);
+    IS(cv_listing(x, sizeof x, list, sizeof list), sizeof before - 1);
+    IS(memcmp(list, before, sizeof before - 1), 0);
+    memset(out, 7, sizeof out);
+    for (size_t i = 0; i < sizeof none / sizeof *none; i++) {
+        const uint32_t *n = none[i];
+        IS(cv_careful_push(x, sizeof x, n[0], 0, 0, 0, 0x07, n[1], n[2], out, sizeof out), REFUSED(CV_NO_GAP));
+    }
+    IS(cv_careful_push(x, sizeof x, 1, 0, 0, 0, 0x07, 4095, 2, out, sizeof out), REFUSED(CV_BEFORE_EXTENDED));
+    IS(cv_careful_push(x, sizeof x, 2048, 0, 0, 0, 0x07, 8192, 16384, out, sizeof out), REFUSED(CV_AFTER_END));
+    IS(cv_careful_push(x, sizeof x, 2048, 0, 0, 0, 0x07, 8192, 4096, out, sizeof out - 1), REFUSED(CV_OUTPUT_SHORT));
+    IS(cv_careful_push(x, sizeof x, 2048, 0, 0, 0, 0x07, 8192, 4097, out, 0), REFUSED(CV_NO_GAP));
+    IS(all(out, sizeof out, 7), true);
+    /* all of the gap, in the order of the stores: the new EBR with its link, then the one before it */
+    IS(cv_careful_push(x, sizeof x, 2048, 0, 0, 0, 0x07, 8192, 4096, out, sizeof out), 2);
+    IS(is_ebr(out, 8192, 0x07, 2048, 2048, 0x05, 8192, 4096), true);
+    IS(is_ebr(out + CV_STORE, 4096, 0x83, 2048, 2048, 0x05, 4096, 4096), true);
+    IS(laid(x, sizeof x, out, 1, y), sizeof y);
+    IS(cv_listing(y, sizeof y, list, sizeof list), sizeof before - 1);
+    IS(memcmp(list, before, sizeof before - 1), 0);
+    IS(laid(x, sizeof x, out, 2, y), sizeof y);
+    IS(cv_listing(y, sizeof y, list, sizeof list), sizeof after - 1);
+    IS(memcmp(list, after, sizeof after - 1), 0);
+    /* at its beginning, at its end, and behind the last zone */
+    IS(cv_careful_push(x, sizeof x, 1, 0, 0, 0, 0x07, 8192, 2, out, sizeof out), 2);
+    IS(is_ebr(out, 8192, 0x07, 1, 1, 0x05, 8192, 4096), true);
+    IS(is_ebr(out + CV_STORE, 4096, 0x83, 2048, 2048, 0x05, 4096, 2), true);
+    IS(cv_careful_push(x, sizeof x, 1, 0, 0, 0, 0x07, 12286, 2, out, sizeof out), 2);
+    IS(is_ebr(out, 12286, 0x07, 1, 1, 0x05, 8192, 4096), true);
+    IS(is_ebr(out + CV_STORE, 4096, 0x83, 2048, 2048, 0x05, 8190, 2), true);
+    IS(cv_careful_push(x, sizeof x, 2048, 0, 0, 0, 0x07, 16384, 4096, out, sizeof out), 2);
+    IS(is_ebr(out, 16384, 0x07, 2048, 2048, 0, 0, 0), true);
+    IS(is_ebr(out + CV_STORE, 12288, 0x83, 2048, 2048, 0x05, 12288, 4096), true);
+    IS(CV_BEFORE_LAST, CV_NO_GAP);
 }
 
 /* The test for a sound table, K's with a first entry that is empty. */
@@ -632,6 +704,7 @@ int main(void)
     careful_refusals();
     careful_changes();
     careful_empty_first();
+    careful_gaps();
     sound_empty_first();
     tables();
     tags();

@@ -1,7 +1,7 @@
 //! Careful changes of a disk that notes every read, write and flush, and that fails when told to.
 
 mod common;
-use common::{disk_k, entry, listing, logical, noted_empty, noted_k, table_k, Event};
+use common::{disk_k, entry, listing, logical, noted_empty, noted_k, table_k, Event, Noted};
 
 use crumbvessel::{careful_push, careful_remove, Error, Medium, Request, MBR};
 
@@ -9,6 +9,9 @@ const BEFORE: &str = "disk 20480 align 2048 logical 1\n1 05 00 4096 16384\n5 83 
 const AFTER: &str = "disk 20480 align 2048 logical 2\n1 05 00 4096 16384\n5 83 00 6144 2048\n6 83 00 10240 2048\n";
 const NONE: &str = "disk 20480 align 4096 logical 0\n1 05 00 4096 16384\n";
 const EMPTY: &str = "disk 20480 align 4096 logical 1\n1 05 00 4096 16384\n";
+const GAP: &str = "disk 20480 align 2048 logical 2\n1 05 00 4096 16384\n5 83 00 6144 2048\n6 83 00 14336 2048\n";
+const FILLED: &str = "disk 20480 align 2048 logical 3\n1 05 00 4096 16384\n5 83 00 6144 2048\n6 83 00 10240 2048\n\
+                      7 83 00 14336 2048\n";
 const BEHIND: &str = "disk 20480 align 4096 logical 2\n1 05 00 4096 16384\n6 83 00 8192 2048\n";
 
 fn request(starting_lba: u32, sectors: u32) -> Request {
@@ -16,7 +19,7 @@ fn request(starting_lba: u32, sectors: u32) -> Request {
 }
 
 #[test]
-fn a_push_stores_the_new_ebr_then_the_former_last() {
+fn a_push_stores_the_new_ebr_then_the_one_before() {
     let mut disk = noted_k();
     let table = careful_push(&mut disk, 512, &request(8192, 4096)).unwrap();
     assert_eq!((table.len(), table[6].starting_lba, table[6].sectors), (6, 10240, 2048));
@@ -111,6 +114,64 @@ fn an_empty_first_ebr_is_removed_as_number_5() {
     assert!(careful_remove(&mut disk, 512, 6).unwrap().is_sound().unwrap());
     assert_eq!(disk.changes(), [Event::Write(4096 * 512, 512), Event::Sync]);
     assert_eq!(listing(&mut disk, 512), EMPTY);
+}
+
+/// Disk K with zones at 6,144, 10,240 and 14,336, of which the middle one is removed: 8,192 to 12,288 is a gap.
+fn noted_gap() -> Noted {
+    let mut disk = noted_k();
+    for start in [8192, 12288] {
+        careful_push(&mut disk, 512, &request(start, 4096)).unwrap();
+    }
+    careful_remove(&mut disk, 512, 6).unwrap();
+    assert_eq!(listing(&mut disk, 512), GAP);
+    disk.events.clear();
+    disk
+}
+
+#[test]
+fn a_push_goes_into_a_gap() {
+    let mut disk = noted_gap();
+    let table = careful_push(&mut disk, 512, &request(8192, 4096)).unwrap();
+    let zones = [(4096, 6144, None), (8192, 10240, Some(4096)), (12288, 14336, Some(4096))];
+    assert_eq!(table.logical_partitions, zones.map(|(ebr, start, link)| logical(ebr, start, 2048, link)));
+    let (new, before) = (8192 * 512, 4096 * 512);
+    assert_eq!(disk.changes(), [Event::Write(new, 512), Event::Sync, Event::Write(before, 512), Event::Sync]);
+    assert_eq!(listing(&mut disk, 512), FILLED);
+    for which in 1..=3 {
+        for stored in [0, 1, 100, 447, 463, 511] {
+            let mut disk = noted_gap();
+            let earlier = disk.writes();
+            disk.fails = Some((earlier + which, stored));
+            assert_eq!(careful_push(&mut disk, 512, &request(8192, 4096)).is_ok(), which == 3);
+            assert_eq!(listing(&mut disk, 512), if which == 3 { FILLED } else { GAP });
+        }
+    }
+    // Its beginning, its end, and a part between.
+    for (start, sectors) in [(8192, 2), (12286, 2), (10000, 100), (8192, 4096)] {
+        let mut disk = noted_gap();
+        let part = Request { align: 1, ..request(start, sectors) };
+        let table = careful_push(&mut disk, 512, &part).unwrap();
+        assert_eq!(table.logical_partitions[1], logical(start, start + 1, sectors - 1, Some(sectors)));
+        assert_eq!((table.len(), &table[7]), (7, &entry(0x83, 14336, 2048)));
+        assert!(table.is_sound().unwrap());
+    }
+}
+
+#[test]
+fn what_fits_no_gap_is_refused() {
+    let mut disk = noted_gap();
+    for (start, sectors) in [(4096, 4096), (6144, 4096), (8193, 4096), (8192, 4097), (12288, 4096), (14336, 4096)] {
+        assert!(matches!(careful_push(&mut disk, 512, &request(start, sectors)), Err(Error::NoGap)));
+    }
+    // On an EBR, between it and its partition, in a partition, one sector too early or too long.
+    let singles = [(4096, 2), (4097, 2), (6143, 2), (6144, 2), (8191, 2), (8192, 4097), (12287, 2), (12289, 2)];
+    for (start, sectors) in singles {
+        let single = Request { align: 1, ..request(start, sectors) };
+        assert_eq!(careful_push(&mut disk, 512, &single).unwrap_err().number(), 21);
+    }
+    let before = Request { align: 1, ..request(4095, 2) };
+    assert_eq!(careful_push(&mut disk, 512, &before).unwrap_err().number(), 10);
+    assert_eq!(disk.changes(), []);
 }
 
 #[test]

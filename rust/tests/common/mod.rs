@@ -137,6 +137,11 @@ impl Noted {
         self.events.iter().copied().filter(|e| !matches!(e, Event::Read(..))).collect()
     }
 
+    /// How many writes there were.
+    pub fn writes(&self) -> usize {
+        self.writes
+    }
+
     fn store(&mut self, bytes: &[u8]) {
         if !self.forgets {
             self.bytes.extend((self.at..).zip(bytes.iter().copied()));

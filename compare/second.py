@@ -3,9 +3,10 @@
 The commands are those of ../second/answers.py and, beside them, commands on T, a table that a line of its own gives:
 
     t SECTOR-SIZE D ALIGN CYLINDERS HEADS SECTORS COUNT CODE, then the 48 numbers of a header, then for each logical
-      partition its entry, EBR place, link sectors or none, first link CHS, last link CHS or none, CODE
+      partition its entry, EBR place, link sectors or none, first link CHS, last link CHS or none, CODE, MARK
 
-CODE is a number from 0 to 255: the code's first byte, and three times it, mod 256, its last; else it is zeros.
+CODE is a number from 0 to 255: the code's first byte, and three times it, mod 256, its last; else it is zeros. MARK is the
+same for the mark.
 A command t_NAME is NAME on T, without the six numbers in front; t_push is push_all. Four are only here:
 
     t_write           writes T to the extract X, out to O: what it says, the table, O's length and checksum
@@ -89,7 +90,8 @@ class Words:
         first = CHS(*self.numbers(3))
         last = self.word()
         return m.Logical(partition, place, None if sectors == "none" else int(sectors), first,
-                         None if last == "none" else CHS(int(last), *self.numbers(2)), code(self.number(), 446))
+                         None if last == "none" else CHS(int(last), *self.numbers(2)), code(self.number(), 446),
+                         code(self.number(), 32))
 
 
 def t(s, *words):

@@ -112,7 +112,8 @@ static inline uint8_t cv_sector(uint64_t answer) { return (uint8_t)answer; }
 #define CV_EBR_FIRST 26                         /* address */
 #define CV_EBR_LAST 30                          /* address, may be absent */
 #define CV_EBR_CODE 34                          /* 446 bytes */
-#define CV_SLOT (CV_EBR_CODE + 446)             /* bytes of a slot */
+#define CV_EBR_MARK (CV_EBR_CODE + 446)         /* 32 bytes: the EBR's bytes 478 to 509 */
+#define CV_SLOT (CV_EBR_MARK + 32)              /* bytes of a slot */
 /* Behind the slots their tags: that of slot i is the sum of what is there. The bytes of an absent value are zeros when
  * written and ignored when read. */
 #define CV_TAGS (CV_SLOTS + CV_SLOT * CV_LOGICALS)
@@ -167,7 +168,7 @@ uint64_t cv_lay_over(const uint8_t *x, size_t x_length, uint32_t lba, const uint
 uint64_t cv_listing(const uint8_t *x, size_t x_length, uint8_t *out, size_t out_length);
 
 /* Careful changes: the stores stand in `out` in the order in which they are to be written, each on the disk before the
- * next one is. */
+ * next one is. An EBR that is stored again has its mark, a new one zeros. */
 
 /* Careful push: the number of stores; 1 to 7 of reading, 20, 23, push's, 12, 21, 19. `track` is the geometry's sectors.
  * The new partition goes behind the others or into a gap between two: its number is 5 and as many more as there are EBRs
@@ -240,8 +241,8 @@ uint64_t cv_get_maximum_partition_size_for(const uint8_t *block, size_t block_le
 
 /* Writes the table of a block over an extract, the new extract to `out`: its length, at most CV_EXTRACT(CV_RECORDS); and
  * the block becomes that of the table as writing leaves it: its slots below the count and their tags are written, and no
- * other byte of it; without an extended entry no byte of it at all. 101, 6, 102 of the block; 1, 3, 4, 2, 7, 13, 14, 18,
- * 22, 19. */
+ * other byte of it; without an extended entry no byte of it at all. The EBRs have zeros for their marks, which the block
+ * keeps. 101, 6, 102 of the block; 1, 3, 4, 2, 7, 13, 14, 18, 22, 19. */
 uint64_t cv_write_into(uint8_t *block, size_t block_length, const uint8_t *x, size_t x_length, uint8_t *out,
                        size_t out_length);
 

@@ -8,7 +8,8 @@ The commands work on X, the lent input, on O, the lent output, and on the number
 line. A CHS address is three numbers: cylinder, head, sector. An entry is ten: flag, first
 CHS, type, last CHS, start, sectors. An MBR record's fields are its disk signature, copy mark
 and boot signature byte by byte and its four entries; its code is the start of X. An EBR's
-fields are its partition's entry and its link's; its code is the start of X.
+fields are its partition's entry and its link's; its code is the start of X, its mark the 32
+bytes behind that.
 
 A command on a table reads it from X; the first six numbers of its line are the alignment,
 the geometry (cylinders, heads, sectors), the count and D that the table is handed in with.
@@ -54,7 +55,8 @@ def header_of(x, numbers):
 
 
 def ebr_of(x, numbers):
-    return m.EBR((x + bytes(446))[:446], entry_of(numbers[:10]), entry_of(numbers[10:]))
+    x = (x + bytes(478))[:478]
+    return m.EBR(x[:446], entry_of(numbers[:10]), entry_of(numbers[10:]), x[446:])
 
 
 # ---------------------------------------------------------------- answers as text
@@ -78,7 +80,7 @@ def header_text(h):
 
 
 def ebr_text(e):
-    return f"{checksum(e.bootstrap_code)} {entry_text(e.partition)} {entry_text(e.link)}"
+    return f"{checksum(e.bootstrap_code)} {checksum(e.mark)} {entry_text(e.partition)} {entry_text(e.link)}"
 
 
 def found_text(e):
@@ -248,7 +250,7 @@ def none_or(value, text=str):
 
 def logical_text(l):
     return (f"{entry_text(l.partition)} {l.absolute_ebr_lba} {none_or(l.ebr_sectors)} {chs_text(l.ebr_first_chs)} "
-            f"{none_or(l.ebr_last_chs, chs_text)} {checksum(l.bootstrap_code)}")
+            f"{none_or(l.ebr_last_chs, chs_text)} {checksum(l.bootstrap_code)} {checksum(l.mark)}")
 
 
 def table_text(t):

@@ -295,7 +295,7 @@ def removal_cases():
             near.lend(sound_chain(3, kind, size))
             for number in (5, 6, 7):
                 remove(number)
-    note("careful removal: links and further bytes of any kind")
+    note("careful removal: links and marks of any kind")
     for fields in ({"sys": 0}, {"sys": 0x83}, {"boot": 0x80}, {"first_chs": m.NO_CHS}, {"last_chs": CHS(1023, 255, 63)},
                    {"sectors": 200}):
         for k in (0, 1):
@@ -578,7 +578,7 @@ def seeded_cases():
                 following = places[k + 1]
                 link = replace(link, starting_lba=following[0], sectors=following[1] + following[2] - following[0])
             partition = replace(c.seeded_entry(rng), sys=rng.of((0x83, 0x07, 0x82)), starting_lba=first - place, sectors=length)
-            records[start + place] = m.ebr_bytes(EBR(rng.bytes(4) + bytes(438) + rng.bytes(4), partition, link))
+            records[start + place] = m.ebr_bytes(EBR(rng.bytes(4) + bytes(438) + rng.bytes(4), partition, link, rng.bytes(32)))
         sectors = at + rng.of((1, 40, 4000, 10 ** 6))
         extended = replace(c.seeded_entry(rng), sys=rng.of(m.EXTENDED_TYPES), starting_lba=start, sectors=sectors)
         near.lend(chained(records, disk_size=start + sectors + rng.below(3), extended=extended, size=512 << rng.below(4)))

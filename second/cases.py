@@ -320,8 +320,8 @@ def mbr_cases():
 
 
 def ebr_case(word, ebr):
-    """A case on an EBR: its code goes to X."""
-    lend(ebr.bootstrap_code.rstrip(b"\0"))
+    """A case on an EBR: its code and its mark go to X."""
+    lend((ebr.bootstrap_code + ebr.mark).rstrip(b"\0"))
     case(word, *words_of(ebr.partition), *words_of(ebr.link))
 
 
@@ -358,11 +358,21 @@ def ebr_cases():
             case("xp", at, flag)
             case("ebr_read")
 
-    note("EBR: the 32 further bytes are not looked at, and written as zeros")
+    note("EBR: the mark is bytes 478 to 509, and written as zeros")
     case("xp", 478, "ff" * 32)
     case("ebr_read")
     case("o", 515, 51)
     case("ebr_again")
+    case("xp", 478, bytes(32))
+    for at in (477, 478, 479, 493, 494, 508, 509):
+        case("xp", at, "a5")
+        case("ebr_read")
+        case("ebr_again")
+        case("xp", at, "00")
+    for at in (510, 511):
+        case("xp", at, "a5")
+        case("ebr_read")
+        case("xp", 510, "55aa")
 
     note("EBR: each field in its place")
     case("x", 512)
@@ -390,9 +400,7 @@ def ebr_cases():
     note("EBR: seeded, read and written again")
     rng = Seeded(303)
     for _ in range(8):
-        record = bytearray(m.ebr_bytes(m.EBR(rng.bytes(446), seeded_entry(rng), seeded_entry(rng))))
-        record[478:510] = rng.bytes(32)
-        lend(record)
+        lend(m.ebr_bytes(m.EBR(rng.bytes(446), seeded_entry(rng), seeded_entry(rng), rng.bytes(32))))
         case("ebr_read")
         case("o", 512, 102)
         case("ebr_again")
@@ -401,7 +409,7 @@ def ebr_cases():
     for _ in range(6):
         case("o", 530, 1)
         ebr_case("ebr_write", m.EBR(rng.bytes(30) + bytes(416), seeded_entry(rng, narrow=False),
-                                    seeded_entry(rng, narrow=False)))
+                                    seeded_entry(rng, narrow=False), rng.bytes(32)))
 
 
 # ---------------------------------------------------------------- the extract

@@ -207,15 +207,24 @@ def header_write(h: Header, out: bytearray) -> None:
     out[:512] = header_bytes(h)
 
 
+NO_MARK = bytes(32)
+
+
 @dataclass(frozen=True)
 class EBR:
     bootstrap_code: bytes
     partition: Entry
     link: Entry
+    mark: bytes = NO_MARK  # the 32 bytes behind the entries
 
 
 def ebr_bytes(e: EBR) -> bytes:
-    return e.bootstrap_code + entry_bytes(e.partition) + entry_bytes(e.link) + bytes(32) + SIGNATURE
+    return e.bootstrap_code + entry_bytes(e.partition) + entry_bytes(e.link) + e.mark + SIGNATURE
+
+
+def unmarked(e: EBR) -> EBR:
+    """The EBR as the plain writer writes it."""
+    return replace(e, mark=NO_MARK)
 
 
 def ebr_read(record: bytes) -> EBR:
@@ -223,7 +232,7 @@ def ebr_read(record: bytes) -> EBR:
         raise Refusal(1)
     if record[510:] != SIGNATURE:
         raise Refusal(3)
-    e = EBR(record[:446], entry_of_bytes(record[446:462]), entry_of_bytes(record[462:478]))
+    e = EBR(record[:446], entry_of_bytes(record[446:462]), entry_of_bytes(record[462:478]), record[478:510])
     check_flags(e.partition, e.link)
     return e
 
@@ -232,7 +241,7 @@ def ebr_write(e: EBR, out: bytearray) -> None:
     check_flags(e.partition, e.link)
     if len(out) < 512:
         raise Refusal(19)
-    out[:512] = ebr_bytes(e)
+    out[:512] = ebr_bytes(unmarked(e))
 
 
 # ---------------------------------------------------------------- the extract
@@ -338,6 +347,7 @@ class Logical:
     ebr_first_chs: CHS
     ebr_last_chs: Optional[CHS]
     bootstrap_code: bytes
+    mark: bytes = NO_MARK
 
 
 NO_LOGICAL = Logical(NO_ENTRY, 0, None, NO_CHS, None, bytes(446))
@@ -389,7 +399,8 @@ def read_chain(disk: Disk, extended: Entry) -> Tuple[Logical, ...]:
             ebr_sectors=link.sectors if link else None,
             ebr_first_chs=link.first_chs if link else extended.first_chs,
             ebr_last_chs=link.last_chs if link else None,
-            bootstrap_code=ebr.bootstrap_code))
+            bootstrap_code=ebr.bootstrap_code,
+            mark=ebr.mark))
         link = ebr.link
         if link.starting_lba == 0:
             return tuple(found)
@@ -676,7 +687,8 @@ def push(t: Table, sys: int, start: int, sectors: int) -> Pushed:
         ebr_sectors=sectors if later else None,
         ebr_first_chs=NO_CHS,
         ebr_last_chs=NO_CHS if later else None,
-        bootstrap_code=bytes(446))
+        bootstrap_code=bytes(446),
+        mark=NO_MARK)
     if check_geometry(t):
         new = update_chs(new, t.cylinders, t.heads, t.sectors)
     if len(t.logicals) == LOGICALS:
@@ -696,10 +708,10 @@ def link_to(l: Logical, extended: Entry) -> Entry:
 
 
 def ebr_of(l: Logical, following: Optional[Logical], extended: Entry) -> EBR:
-    """The EBR of a logical partition, with its link to the following one, or its end."""
+    """The EBR of a logical partition, with its mark and its link to the following one, or its end."""
     relative = max(l.partition.starting_lba - l.absolute_ebr_lba, 0)
     link = link_to(following, extended) if following else NO_ENTRY
-    return EBR(l.bootstrap_code, replace(l.partition, starting_lba=relative), link)
+    return EBR(l.bootstrap_code, replace(l.partition, starting_lba=relative), link, l.mark)
 
 
 class Written(NamedTuple):
@@ -727,7 +739,7 @@ def write_table(t: Table, x: bytes, out: bytearray) -> Written:
             check_flags(l.partition)
             if l.absolute_ebr_lba >= disk.disk_size:
                 raise Refusal(2)
-            records.append((l.absolute_ebr_lba, ebr_bytes(ebr_of(l, following, extended))))
+            records.append((l.absolute_ebr_lba, ebr_bytes(unmarked(ebr_of(l, following, extended)))))
     return Written(t, lay_records(disk, records, out))
 
 

@@ -27,8 +27,13 @@ def code(number):
     return bytes([number % 256]) + bytes(444) + bytes([number * 3 % 256])
 
 
+def mark(number):
+    """A mark of random bytes, the same for the same number."""
+    return c.Seeded(number).bytes(32)
+
+
 def coded(ebr, number):
-    return replace(ebr, bootstrap_code=code(number))
+    return replace(ebr, bootstrap_code=code(number), mark=mark(number))
 
 
 def with_header(header, disk_size=100000, others=()):
@@ -52,7 +57,7 @@ def chain(n, start=X, step=STEP):
             link = replace(LINK, starting_lba=step * (k + 1), first_chs=CHS(k + 1, k, 1), last_chs=CHS(k + 1, k, 63),
                            sectors=step + k)
         partition = Entry(0, CHS(k, 1, 1), 0x83, CHS(k, 2, 2), 10, 80 - k)
-        ebrs.append(EBR(code(k + 1), partition, link))
+        ebrs.append(EBR(code(k + 1), partition, link, mark(k + 1)))
     return ebrs
 
 
@@ -359,8 +364,9 @@ def link_cases():
         for fields in ({"sys": 0}, {"sys": 0x05}, {"boot": 0x80}, {"sectors": 0}, {"sectors": BIG}, {"starting_lba": 0},
                        {"starting_lba": 1}, {"first_chs": CHS(1023, 255, 63), "last_chs": CHS(1023, 255, 63)}):
             read(one_wrong(n, k, put, partition=fields))
-    note("reading: the 32 further bytes are not looked at")
-    read(one_wrong(3, 1, damage, 478, "ff" * 32))
+    note("reading: a mark may be of any bytes")
+    for text in ("00" * 32, "ff" * 32, m.entry_bytes(LINK).hex() * 2, "01" + "00" * 31, "00" * 31 + "80"):
+        read(one_wrong(3, 1, damage, 478, text))
     note("reading: a chain that leaves the extended partition")
     for sectors in (0, 1, STEP, STEP + 1):
         read(chained(records_of(chain(3)), extended=replace(EXTENDED, sectors=sectors)))
@@ -451,7 +457,7 @@ def seeded_cases():
             partition = replace(c.seeded_entry(rng), sys=rng.of((0, 0x83, 0x05, 0x07)),
                                 starting_lba=rng.of((0, 1, 63, 2048, 999, rng.below(4000))))
             link = replace(c.seeded_entry(rng), starting_lba=following)
-            record = m.ebr_bytes(EBR(rng.bytes(4) + bytes(438) + rng.bytes(4), partition, link))
+            record = m.ebr_bytes(EBR(rng.bytes(4) + bytes(438) + rng.bytes(4), partition, link, rng.bytes(32)))
             if rng.below(15) == 0:
                 record = damaged(record, rng.of((446, 462, 510)), "11")
             if start + relative < disk_size and rng.below(25) != 0:

@@ -77,11 +77,6 @@ def chain_places(rng, start, n):
     return places, least
 
 
-def further(rng, record):
-    """The EBR with any 32 further bytes, which reading ignores."""
-    return record[:478] + rng.choice((bytes(32), rng.randbytes(32))) + record[510:]
-
-
 def chain_records(rng, start, end, places):
     records = {}
     for i, (at, first, length) in enumerate(places):
@@ -91,8 +86,8 @@ def chain_records(rng, start, end, places):
             covered = next_first + next_length - place
             link = entry(rng, rng.choice((0x05, rng.randrange(256))), place - start,
                          rng.choice((covered, covered, end - place)))
-        ebr = EBR(any_code(rng, 446), entry(rng, any_type(rng) if length else 0, first - at, length), link)
-        records[at] = further(rng, m.ebr_bytes(ebr))
+        ebr = EBR(any_code(rng, 446), entry(rng, any_type(rng) if length else 0, first - at, length), link, rng.randbytes(32))
+        records[at] = m.ebr_bytes(ebr)
     return records
 
 
@@ -295,11 +290,13 @@ def link_bytes(extended, l):
             + m.four(l.absolute_ebr_lba - extended.starting_lba) + m.four(l.ebr_sectors))
 
 
-TAIL = bytes(32) + b"\x55\xaa"
+def relinked(record, link):
+    """An EBR with another link: its own first 462 bytes, and its own mark."""
+    return record[:462] + link + record[478:]
 
 
 def push_records(disk, t, wanted, align, sys, start, sectors):
-    """The stores of a push: a new EBR with its link to what follows, then the one before, with its own first 462 bytes."""
+    """The stores of a push: a new EBR without a mark, with its link to what follows, then the one before, but for its link."""
     extended = t.header.extended()
     place, first, end = new_place(align, start, sectors)
     before = [l for l in t.logicals if l.absolute_ebr_lba < place]
@@ -309,10 +306,10 @@ def push_records(disk, t, wanted, align, sys, start, sectors):
         place = extended.starting_lba
     partition = (b"\x00" + m.chs_bytes(new.partition.first_chs) + bytes([sys]) + m.chs_bytes(new.partition.last_chs)
                  + m.four(first - place) + m.four(end - first))
-    stores = [(place, bytes(446) + partition + link_bytes(extended, behind[0] if behind else None) + TAIL)]
+    stores = [(place, bytes(446) + partition + link_bytes(extended, behind[0] if behind else None) + bytes(32) + b"\x55\xaa")]
     if before:
         last = before[-1].absolute_ebr_lba
-        stores.append((last, disk.records[last][:462] + link_bytes(extended, new) + TAIL))
+        stores.append((last, relinked(disk.records[last], link_bytes(extended, new))))
     return stores
 
 
@@ -322,13 +319,13 @@ def removal_records(disk, t, at):
     behind = t.logicals[at + 1] if at + 1 < len(t.logicals) else None
     if at > 0:
         place = t.logicals[at - 1].absolute_ebr_lba
-        return [(place, disk.records[place][:462] + link_bytes(extended, behind) + TAIL)]
+        return [(place, relinked(disk.records[place], link_bytes(extended, behind)))]
     if behind is None:
         return [(extended.starting_lba, bytes(512))]
     third = t.logicals[2] if len(t.logicals) > 2 else None
     second = disk.records[behind.absolute_ebr_lba]
     moved = m.four(behind.partition.starting_lba - extended.starting_lba)
-    return [(extended.starting_lba, second[:454] + moved + second[458:462] + link_bytes(extended, third) + TAIL)]
+    return [(extended.starting_lba, relinked(second[:454] + moved + second[458:], link_bytes(extended, third)))]
 
 
 def in_first_place(t):
@@ -336,7 +333,8 @@ def in_first_place(t):
     if not t.logicals:
         return t
     extended, first = t.header.extended(), t.logicals[0]
-    first = m.Logical(first.partition, extended.starting_lba, None, extended.first_chs, None, first.bootstrap_code)
+    first = m.Logical(first.partition, extended.starting_lba, None, extended.first_chs, None, first.bootstrap_code,
+                      first.mark)
     return replace(t, logicals=(first, *t.logicals[1:]))
 
 
@@ -488,6 +486,20 @@ def code_lost(made, out):
     return made
 
 
+def mark_wiped(made, out):
+    """The mark of the record that is rewritten wiped."""
+    at = m.STORE * (len(made.stores) - 1) + 4
+    altered(out, at + 478, bytes(32))
+    return made
+
+
+def mark_inherited(made, out):
+    """The new partition with its neighbour's mark."""
+    if len(made.stores) == 2:
+        altered(out, 4 + 478, out[m.STORE + 4 + 478:m.STORE + 4 + 510])
+    return made
+
+
 def one_sector_on(made, out):
     """A store one sector higher."""
     altered(out, 0, m.four(m.little(out[:4]) + 1))
@@ -573,7 +585,7 @@ def byte_behind(made, out):
     return made
 
 
-FAULTS = (exchanged, repeated, one_dropped, other_type, partition_type, code_lost, one_sector_on, on_data,
+FAULTS = (exchanged, repeated, one_dropped, other_type, partition_type, code_lost, mark_wiped, mark_inherited, one_sector_on, on_data,
           over_empty, first_filled, exchanged_in_gap, without_link, link_one_on, link_type, answered_last, put_last, byte_behind)
 
 

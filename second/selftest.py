@@ -566,7 +566,7 @@ def any_disk(rng):
         if i + 1 < len(places):
             nxt = places[i + 1]
             link = part(5, nxt[0] - start, nxt[1] + nxt[2] - nxt[0])
-        records[place] = m.ebr_bytes(m.EBR(rng.randbytes(446), part(0x83 if length else 0, first - place, length), link))
+        records[place] = m.ebr_bytes(m.EBR(rng.randbytes(446), part(0x83 if length else 0, first - place, length), link, rng.randbytes(32)))
     return extract(disk_size, records)
 
 
@@ -574,7 +574,7 @@ def careful_disks():
     """Every prefix of the stores reads as the old table or as the new one."""
     rng = random.Random(20)
     accepted = behind_empty = into_gap = 0
-    for _ in range(6000):
+    for _ in range(8000):
         x = any_disk(rng)
         old = answer(m.read_table, x)
         if rng.random() < 0.6:
@@ -603,7 +603,7 @@ def careful_disks():
 
 
 def written_disks():
-    """A sound table that is written reads back; other lent bytes stay."""
+    """A sound table that is written reads back without its marks, and keeps them itself; other lent bytes stay."""
     rng = random.Random(21)
     for _ in range(1000):
         x = any_disk(rng)
@@ -615,7 +615,8 @@ def written_disks():
             continue
         out = bytearray(b"\x44" * 20000)
         done = m.write_table(t, extract(t.disk_size, {}), out)
-        same(m.read_table(bytes(out[:done.length])), t)
+        same(m.read_table(bytes(out[:done.length])), replace(t, logicals=tuple(replace(l, mark=bytes(32)) for l in t.logicals)))
+        same(done.table, t)
         same(bytes(out[done.length:]), b"\x44" * (20000 - done.length))
 
 

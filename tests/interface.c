@@ -5,7 +5,8 @@
 
 #include "crumbvessel.h"
 
-_Static_assert(CV_CODE + CV_HEADER == CV_LOGICAL(0) && CV_EBR_CODE + 446 == CV_SLOT, "the header, then slots");
+_Static_assert(CV_CODE + CV_HEADER == CV_LOGICAL(0) && CV_EBR_CODE + 446 == CV_EBR_MARK, "the header, then slots");
+_Static_assert(CV_EBR_MARK + 32 == CV_SLOT, "a slot ends with the mark");
 _Static_assert(CV_LOGICAL(CV_LOGICALS) == CV_TAG(0) && CV_TAG(CV_LOGICALS) == CV_BLOCK, "the slots, then their tags");
 _Static_assert(CV_LONE_TAG == CV_SLOT && CV_LONE_SLOT == CV_SLOT + 1, "a slot, then its tag");
 
@@ -696,6 +697,46 @@ static void writing(void)
     IS(memcmp(u + CV_TAG(1), v + CV_TAG(1), CV_BLOCK - CV_TAG(1)), 0);
 }
 
+/* K with a mark, which reading, push and removal carry along, careful changes store, and writing leaves out. */
+static void marks(void)
+{
+    static uint8_t t[CV_BLOCK], u[CV_BLOCK];
+    uint8_t marked[CV_EXTRACT(2)], out[CV_STORES], one[CV_EXTRACT(3)], two[CV_EXTRACT(3)], mark[32], second[32];
+    memcpy(marked, k, sizeof marked);
+    for (int i = 0; i < 32; i++) {
+        mark[i] = (uint8_t)(200 + i);
+        second[i] = (uint8_t)(100 + i);
+    }
+    memcpy(marked + 544 + 478, mark, 32);
+    IS(cv_read(marked, sizeof marked, t, sizeof t), CV_DONE);
+    IS(memcmp(t + CV_LOGICAL(0) + CV_EBR_MARK, mark, 32), 0);
+    IS(all(t + CV_LOGICAL(0) + CV_EBR_CODE, 446, 0), true);
+    IS(all(t + CV_LOGICAL(1), CV_SLOT, 0), true);
+    IS(cv_push(t, sizeof t, 0x83, 8192, 4096), 6);
+    IS(memcmp(t + CV_LOGICAL(0) + CV_EBR_MARK, mark, 32), 0);
+    IS(all(t + CV_LOGICAL(1) + CV_EBR_MARK, 32, 0), true);
+    memcpy(t + CV_LOGICAL(1) + CV_EBR_MARK, second, 32);
+    memcpy(u, t, sizeof u);
+    IS(cv_write_into(t, sizeof t, k, sizeof k, one, sizeof one), sizeof one);
+    IS(memcmp(t, u, sizeof t), 0);
+    IS(all(one + 36 + 512 + 478, 32, 0), true);
+    IS(all(one + 36 + 1024 + 478, 32, 0), true);
+    IS(cv_remove(t, sizeof t, 5), CV_DONE);
+    IS(memcmp(t + CV_LOGICAL(0) + CV_EBR_MARK, second, 32), 0);
+    IS(cv_careful_push(marked, sizeof marked, 2048, 0, 0, 0, 0x83, 8192, 4096, out, sizeof out), 2);
+    IS(all(out + 4 + 478, 32, 0), true);
+    IS(memcmp(out + CV_STORE + 4 + 478, mark, 32), 0);
+    memcpy(out + 4 + 478, second, 32);
+    IS(cv_lay_over(marked, sizeof marked, 8192, out + 4, 512, one, sizeof one), sizeof one);
+    IS(cv_lay_over(one, sizeof one, 4096, out + CV_STORE + 4, 512, two, sizeof two), sizeof two);
+    IS(cv_careful_remove(two, sizeof two, 5, out, sizeof out), 1);
+    IS(get32(out), 4096);
+    IS(memcmp(out + 4 + 478, second, 32), 0);
+    IS(cv_careful_remove(two, sizeof two, 6, out, sizeof out), 1);
+    IS(get32(out), 4096);
+    IS(memcmp(out + 4 + 478, mark, 32), 0);
+}
+
 int main(void)
 {
     make_k();
@@ -716,6 +757,7 @@ int main(void)
     headers();
     slots();
     writing();
+    marks();
     printf("%d of %d answers as document 01 has them\n", tried - failed, tried);
     return failed != 0;
 }

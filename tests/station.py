@@ -2,7 +2,8 @@
 
 SFDISK and STRACE may be empty. With quick there are fewer images, which takes some seconds.
 
-Images with 0 to 24 logical partitions are made by sfdisk, images of every sector size by the second program. Zones are pushed
+Images with 0 to 24 logical partitions are made by sfdisk, images of every sector size by the second program; every EBR
+has a mark of random bytes, which the second program compares too. Zones are pushed
 behind the others and into gaps: where sfdisk's image lost a zone, and on the second program's. Each change is carried out whole,
 and then again and again with the program stopped before and after each call that writes, and with calls that fail or are cut
 short: from one on, one alone, and one with the program stopped right after it. Each time the image must read as the table before
@@ -149,7 +150,7 @@ def attempts(calls, size):
     for at in range(1, calls + 1):
         yield from (("kill", at, 0), ("before", at, 0), ("fail", at, 0))
     for at in range(1, calls, 2):
-        for cut in (0, 1, 446, 462, 463, 470, 474, 477, 511, 512, size - 512, size - 1):
+        for cut in (0, 1, 446, 462, 463, 470, 474, 477, 478, 494, 511, 512, size - 512, size - 1):
             if cut < size and (cut < 512 or size > 512):
                 yield from (("cut", at, cut), ("once", at, cut), ("torn", at, cut))
 
@@ -328,7 +329,19 @@ def from_sfdisk(folder, n):
     done = subprocess.run([SFDISK, "-q", path], input="\n".join(script).encode(), stdout=subprocess.PIPE, stderr=subprocess.PIPE)
     if done.returncode != 0:
         fail("sfdisk makes an image", done.stderr.decode())
-    return Image(path, 512)
+    image = Image(path, 512)
+    marked(image, random.Random(n))
+    return image
+
+
+def marked(image, rng):
+    """A mark of random bytes into every EBR. Where sfdisk looks for the type of a third and a fourth entry stands none of an
+    extended partition."""
+    for l in m.read_table(image.extract()).logicals:
+        mark = bytearray(rng.randbytes(32))
+        mark[4] = mark[20] = 0xDA
+        record = image.sector(l.absolute_ebr_lba)
+        image.put(l.absolute_ebr_lba, record[:478] + mark + record[510:])
 
 
 def with_sfdisk(folder):

@@ -4,7 +4,7 @@ use crate::c::*;
 
 pub const LOGICALS: usize = 24;
 pub const HEADER: usize = 446 + 4 * 18 + 2;
-pub const SLOT: usize = 34 + 446;
+pub const SLOT: usize = 34 + 446 + 32;
 pub const SLOTS: usize = 20 + HEADER;
 pub const TAGS: usize = SLOTS + SLOT * LOGICALS;
 pub const BLOCK: usize = TAGS + LOGICALS;

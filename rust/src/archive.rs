@@ -12,7 +12,9 @@ pub const RECORDS: usize = 64;
 /// The bytes of an entry in a block.
 const ENTRY: usize = 18;
 pub const HEADER: usize = 446 + 4 * ENTRY + 2;
-pub const SLOT: usize = ENTRY + 16 + 446;
+/// The bytes of a mark.
+pub const MARK: usize = 32;
+pub const SLOT: usize = ENTRY + 16 + 446 + MARK;
 /// Where the slots of a block begin, and where its tags do.
 const SLOTS: usize = 20 + HEADER;
 pub const TAGS: usize = SLOTS + SLOT * LOGICALS;

@@ -44,7 +44,8 @@ impl Puts<'_> {
     /// An absent value is zeros.
     fn slot(&mut self, l: &LogicalPartition) -> &mut Self {
         self.entry(&l.partition).number(l.absolute_ebr_lba).number(l.ebr_sectors.unwrap_or(0));
-        self.chs(l.ebr_first_chs).chs(l.ebr_last_chs.unwrap_or(CHS::empty())).bytes(&l.bootstrap_code)
+        self.chs(l.ebr_first_chs).chs(l.ebr_last_chs.unwrap_or(CHS::empty())).bytes(&l.bootstrap_code);
+        self.bytes(&l.mark)
     }
 }
 
@@ -104,6 +105,7 @@ impl Takes<'_> {
             ebr_first_chs: self.chs(),
             ebr_last_chs: Some(self.chs()).filter(|_| tag & EBR_LAST != 0),
             bootstrap_code: self.bytes(),
+            mark: self.bytes(),
         }
     }
 }

@@ -1,3 +1,4 @@
+use crate::archive::MARK;
 use crate::error::Result;
 use crate::{archive, block, MBRPartitionEntry, CHS};
 
@@ -16,6 +17,9 @@ pub struct LogicalPartition {
     pub ebr_last_chs: Option<CHS>,
     /// The EBR's code.
     pub bootstrap_code: [u8; 446],
+    /// The EBR's bytes 478 to 509, which mbrman drops. Careful changes write them back, [`MBR::write_into`](crate::MBR)
+    /// writes zeros; a new partition has zeros.
+    pub mark: [u8; MARK],
 }
 
 impl LogicalPartition {

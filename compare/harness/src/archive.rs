@@ -7,6 +7,7 @@ use crate::adapter::Extract;
 use crate::block::{self, BLOCK};
 use crate::c::*;
 use crate::given::Given;
+use crate::marked::{Table, NO_MARK};
 use crate::text::{self, Words};
 
 type Said = Option<String>;
@@ -35,7 +36,7 @@ fn address(answer: u64) -> Said {
 }
 
 /// A call that writes a table to a lent block, which must stay as it was if the call refuses.
-fn block_of(call: impl FnOnce(*mut u8, usize) -> u64) -> Result<MBR, u64> {
+fn block_of(call: impl FnOnce(*mut u8, usize) -> u64) -> Result<Table, u64> {
     let mut out = vec![FILL; BLOCK];
     let answer = call(out.as_mut_ptr(), BLOCK);
     if answer >> 32 != 0 {
@@ -47,7 +48,7 @@ fn block_of(call: impl FnOnce(*mut u8, usize) -> u64) -> Result<MBR, u64> {
 
 /// A call that changes the table of a block in place: its value and the table afterwards. A refusal leaves the block as
 /// it was.
-fn changed(b: &[u8], call: impl FnOnce(*mut u8, usize) -> u64) -> Result<(u32, MBR), u64> {
+fn changed(b: &[u8], call: impl FnOnce(*mut u8, usize) -> u64) -> Result<(u32, Table), u64> {
     let mut after = b.to_vec();
     let answer = call(after.as_mut_ptr(), after.len());
     if answer >> 32 != 0 {
@@ -190,8 +191,11 @@ impl Archive {
             Ok(t) => t,
             Err(k) => return Some(format!("refused {k}")),
         };
-        let mut t = MBR { align, cylinders, heads, sectors, disk_size, ..t };
-        t.logical_partitions.resize(count, crate::crate_side::no_logical());
+        let Table { mbr, mut marks } = t;
+        let mut mbr = MBR { align, cylinders, heads, sectors, disk_size, ..mbr };
+        mbr.logical_partitions.resize(count, crate::crate_side::no_logical());
+        marks.resize(count, NO_MARK);
+        let t = Table { mbr, marks };
         match word {
             "push" => {
                 let said = self.on_table("push", &t, w, &second)?;
@@ -211,7 +215,7 @@ impl Archive {
         }
     }
 
-    fn on_table(&mut self, word: &str, t: &MBR, mut w: Words, x: &[u8]) -> Said {
+    fn on_table(&mut self, word: &str, t: &Table, mut w: Words, x: &[u8]) -> Said {
         let b = block::of_table(t);
         let (p, n) = (b.as_ptr(), b.len());
         unsafe {
@@ -238,19 +242,19 @@ impl Archive {
         }
     }
 
-    fn remove(&mut self, t: &MBR, b: &[u8], number: u32) -> Said {
+    fn remove(&mut self, t: &Table, b: &[u8], number: u32) -> Said {
         let done = changed(b, |p, n| u64::from(unsafe { cv_remove(p, n, number) }) << 32);
         Some(match done {
             Ok((_, after)) => {
-                let removed = block::logical(&block::lone(b, number as usize - 5));
-                format!("done {} {}", text::logical(&removed), text::table(&after))
+                let (removed, mark) = block::logical(&block::lone(b, number as usize - 5));
+                format!("done {} {}", text::logical(&removed, &mark), text::table(&after))
             }
             Err(k) => format!("refused {k} {}", text::table(t)),
         })
     }
 
     /// The answer, and the table afterwards.
-    fn write(&mut self, t: &MBR, x: &[u8]) -> (u64, MBR) {
+    fn write(&mut self, t: &Table, x: &[u8]) -> (u64, Table) {
         let (b, o) = (block::of_table(t), &mut self.given.o);
         let call = |p, n| unsafe { cv_write_into(p, n, x.as_ptr(), x.len(), o.as_mut_ptr(), o.len()) };
         match changed(&b, call) {
@@ -259,7 +263,7 @@ impl Archive {
         }
     }
 
-    fn write_header(&mut self, t: &MBR, x: &[u8]) -> Said {
+    fn write_header(&mut self, t: &Table, x: &[u8]) -> Said {
         let (b, o) = (block::of_table(t), &mut self.given.o);
         let h = &b[block::HEADER..][..block::HEADER_LENGTH];
         let answer = unsafe { cv_write_header(h.as_ptr(), h.len(), x.as_ptr(), x.len(), o.as_mut_ptr(), o.len()) };
@@ -281,7 +285,7 @@ impl Archive {
 }
 
 /// The table that an extract reads as.
-fn read(x: &[u8]) -> Result<MBR, u64> {
+fn read(x: &[u8]) -> Result<Table, u64> {
     block_of(|out, n| u64::from(unsafe { cv_read(x.as_ptr(), x.len(), out, n) }) << 32)
 }
 
@@ -322,7 +326,7 @@ fn places(word: &str, b: &[u8], w: &mut Words) -> Said {
     }
 }
 
-fn looks(word: &str, _: &MBR, b: &[u8], w: &mut Words) -> Said {
+fn looks(word: &str, _: &Table, b: &[u8], w: &mut Words) -> Said {
     let (p, n) = (b.as_ptr(), b.len());
     unsafe {
         match word {
@@ -350,7 +354,7 @@ pub fn is_extended(sys: u8) -> bool {
     unsafe { cv_is_extended(sys) }
 }
 
-fn edits(word: &str, t: &MBR, b: &[u8], mut w: Words, x: &[u8]) -> Said {
+fn edits(word: &str, t: &Table, b: &[u8], mut w: Words, x: &[u8]) -> Said {
     match word {
         "remove_at" | "update_from" => {
             let done = changed(b, |p, n| {
@@ -371,7 +375,8 @@ fn edits(word: &str, t: &MBR, b: &[u8], mut w: Words, x: &[u8]) -> Said {
             let mut slot = block::lone(b, w.usize());
             let k = unsafe { cv_update_chs(slot.as_mut_ptr(), slot.len(), t.cylinders, t.heads, t.sectors) };
             let first = if k == 0 { "done".to_string() } else { format!("refused {k}") };
-            Some(format!("{first} {}", text::logical(&block::logical(&slot))))
+            let (l, mark) = block::logical(&slot);
+            Some(format!("{first} {}", text::logical(&l, &mark)))
         }
         _ => None,
     }
@@ -414,7 +419,7 @@ pub fn refusals(b: &[u8], x: &[u8]) -> [(&'static str, u64); 17] {
 pub fn short_outputs(x: &[u8], length: usize) -> [(u64, u64); 2] {
     let mut out = vec![FILL; length];
     let (q, m) = (out.as_mut_ptr(), length);
-    let own = |r: Result<MBR, u64>| r.map_or_else(|k| k, |_| 101);
+    let own = |r: Result<Table, u64>| r.map_or_else(|k| k, |_| 101);
     let (y, l) = (x.as_ptr(), x.len());
     let made = block_of(|o, n| u64::from(unsafe { cv_new_from(y, l, 1, o, n) }) << 32);
     let said = [

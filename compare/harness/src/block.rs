@@ -2,15 +2,16 @@
 
 use mbrman::{LogicalPartition, MBRHeader, MBRPartitionEntry, CHS, MBR};
 
+use crate::marked::{Mark, Table};
 use crate::text;
 
-pub const BLOCK: usize = 12084;
+pub const BLOCK: usize = 12852;
 pub const HEADER: usize = 20;
 pub const HEADER_LENGTH: usize = 520;
-const SLOT: usize = 480;
+const SLOT: usize = 512;
 const SLOTS: usize = 24;
 /// Where the tags begin, one for each slot.
-pub const TAGS: usize = 12060;
+pub const TAGS: usize = 12828;
 
 fn slot(i: usize) -> usize {
     540 + SLOT * i
@@ -54,18 +55,19 @@ impl Writer {
         self.put(&h.boot_signature);
     }
 
-    fn logical(&mut self, l: &LogicalPartition) {
+    fn logical(&mut self, l: &LogicalPartition, mark: &Mark) {
         self.entry(&l.partition);
         self.put(&l.absolute_ebr_lba.to_le_bytes());
         self.put(&l.ebr_sectors.unwrap_or(0).to_le_bytes());
         self.chs(&l.ebr_first_chs);
         self.chs(&l.ebr_last_chs.unwrap_or(CHS::empty()));
         self.put(&l.bootstrap_code);
+        self.put(mark);
     }
 }
 
 /// The block of a table; slots and tags behind its partitions are zeros, and partitions behind the 24th are left out.
-pub fn of_table(t: &MBR) -> Vec<u8> {
+pub fn of_table(t: &Table) -> Vec<u8> {
     let mut w = Writer(Vec::with_capacity(BLOCK));
     for n in [t.sector_size, t.disk_size, t.align, t.logical_partitions.len() as u32] {
         w.put(&n.to_le_bytes());
@@ -73,7 +75,7 @@ pub fn of_table(t: &MBR) -> Vec<u8> {
     w.put(&t.cylinders.to_le_bytes());
     w.put(&[t.heads, t.sectors]);
     w.header(&t.header);
-    t.logical_partitions.iter().take(SLOTS).for_each(|l| w.logical(l));
+    t.logical_partitions.iter().zip(&t.marks).take(SLOTS).for_each(|(l, mark)| w.logical(l, mark));
     w.0.resize(TAGS, 0);
     t.logical_partitions.iter().take(SLOTS).for_each(|l| w.put(&[tag(l)]));
     w.0.resize(BLOCK, 0);
@@ -125,17 +127,18 @@ impl Reader<'_> {
         }
     }
 
-    fn logical(&mut self, tag: u8) -> LogicalPartition {
+    fn logical(&mut self, tag: u8) -> (LogicalPartition, Mark) {
         let (partition, absolute_ebr_lba, sectors) = (self.entry(), self.u32(), self.u32());
         let (ebr_first_chs, last) = (self.chs(), self.chs());
-        LogicalPartition {
+        let l = LogicalPartition {
             partition,
             absolute_ebr_lba,
             ebr_sectors: (tag & 1 != 0).then_some(sectors),
             ebr_first_chs,
             ebr_last_chs: (tag & 2 != 0).then_some(last),
             bootstrap_code: self.take(),
-        }
+        };
+        (l, self.take())
     }
 }
 
@@ -143,8 +146,8 @@ pub fn entry(bytes: &[u8]) -> MBRPartitionEntry {
     Reader(bytes).entry()
 }
 
-/// The partition in a slot with its tag.
-pub fn logical(lone: &[u8]) -> LogicalPartition {
+/// The partition in a slot with its tag, and its mark.
+pub fn logical(lone: &[u8]) -> (LogicalPartition, Mark) {
     Reader(lone).logical(lone[SLOT])
 }
 
@@ -154,13 +157,14 @@ pub fn header(bytes: &[u8]) -> MBRHeader {
 
 /// The table of a block. No byte of it is left to chance: slots in use and their tags are what the table is written as
 /// again, the others are as in the block that was handed in, or zeros.
-pub fn table(b: &[u8], given: Option<&[u8]>) -> MBR {
+pub fn table(b: &[u8], given: Option<&[u8]>) -> Table {
     let mut r = Reader(b);
     let (sector_size, disk_size, align, count) = (r.u32(), r.u32(), r.u32(), r.u32() as usize);
     let (cylinders, heads, sectors) = (u16::from_le_bytes(r.take()), r.u8(), r.u8());
     let header = r.header();
-    let logical_partitions = b[TAGS..TAGS + count].iter().map(|&tag| r.logical(tag)).collect();
-    let t = MBR { sector_size, header, logical_partitions, align, cylinders, heads, sectors, disk_size };
+    let (logical_partitions, marks) = b[TAGS..TAGS + count].iter().map(|&tag| r.logical(tag)).unzip();
+    let mbr = MBR { sector_size, header, logical_partitions, align, cylinders, heads, sectors, disk_size };
+    let t = Table { mbr, marks };
     let (again, zeros, used) = (of_table(&t), vec![0; BLOCK], slot(count));
     let given = given.unwrap_or(&zeros);
     assert!(b[..used] == again[..used], "a block with other bytes than its table's");

@@ -13,6 +13,7 @@ use mbrman::{LogicalPartition, MBRHeader, MBRPartitionEntry, BOOT_ACTIVE, BOOT_I
 
 use crate::adapter::{Disk, Extract, RECORD};
 use crate::given::Given;
+use crate::marked::{Table, NO_MARK};
 use crate::refusal::{plain, run, Operation, Refused};
 use crate::text::{self, Words};
 
@@ -79,7 +80,7 @@ impl Crate {
                 let mut disk = Disk::new(Extract::of(&self.given.x)?);
                 let size = disk.extract.sector_size;
                 let signature = [w.u8(), w.u8(), w.u8(), w.u8()];
-                said(run(Operation::Read, || MBR::new_from(&mut disk, size, signature)).map(|t| text::table(&t)))
+                said(run(Operation::Read, || MBR::new_from(&mut disk, size, signature)).map(|t| text::table(&Table::unmarked(t))))
             }
             _ if word.starts_with("chs_") => chs_command(word, w),
             "entry_boot" => Some(format!("{BOOT_ACTIVE} {BOOT_INACTIVE}")),
@@ -146,7 +147,7 @@ impl Crate {
     }
 
     /// Reading with document 01's capacity: the 25th EBR is 6 once it was read without 2, 3 or 4.
-    pub fn read(&mut self, x: &[u8]) -> Option<Result<MBR, Refused>> {
+    pub fn read(&mut self, x: &[u8]) -> Option<Result<Table, Refused>> {
         let mut disk = Disk::new(Extract::of(x)?);
         let size = disk.extract.sector_size;
         let answer = run(Operation::Read, || MBR::read_from(&mut disk, size));
@@ -155,6 +156,10 @@ impl Crate {
         if ebrs > LOGICALS + 1 || ebrs == LOGICALS + 1 && !last_failed {
             self.carry("a 25th logical partition: the crate goes on");
             return Some(Err(Refused { number: 6, panic: None }));
+        }
+        let answer = answer.map(|t| Table::of_disk(t, &disk.extract));
+        if answer.as_ref().is_ok_and(|t| t.marks.iter().any(|mark| *mark != NO_MARK)) {
+            self.carry("reading an EBR's bytes 478 to 509: the crate drops them");
         }
         Some(answer)
     }
@@ -179,8 +184,11 @@ impl Crate {
             Ok(t) => t,
             Err(r) => return Some(refused(&r)),
         };
-        let mut t = MBR { align, cylinders, heads, sectors, disk_size, ..t };
-        t.logical_partitions.resize(count, no_logical());
+        let Table { mbr, mut marks } = t;
+        let mut mbr = MBR { align, cylinders, heads, sectors, disk_size, ..mbr };
+        mbr.logical_partitions.resize(count, no_logical());
+        marks.resize(count, NO_MARK);
+        let t = Table { mbr, marks };
         match word {
             "update_from" => self.update_from(t, &second),
             "push" => match self.push(&t, &mut w)? {
@@ -193,7 +201,7 @@ impl Crate {
         }
     }
 
-    fn on_table(&mut self, word: &str, t: MBR, mut w: Words) -> Said {
+    fn on_table(&mut self, word: &str, t: Table, mut w: Words) -> Said {
         if t.logical_partitions.len() > LOGICALS {
             return None;
         }
@@ -208,6 +216,9 @@ impl Crate {
             "remove_at" => {
                 let (mut after, sector) = (t.clone(), w.u32());
                 let answer = run(Operation::Remove, || after.remove_at_sector(sector));
+                if after.logical_partitions.len() < t.logical_partitions.len() {
+                    after.marks.remove(t.find_at_sector(sector).expect("it was found") - 5);
+                }
                 self.changed(answer, t, after)
             }
             "check_geometry" => Some(text::truth(t.check_geometry())),
@@ -232,7 +243,7 @@ impl Crate {
     }
 
     /// What the call says, and the table, which a refusal must leave as it was.
-    fn changed(&mut self, answer: Result<(), Refused>, given: MBR, after: MBR) -> Said {
+    fn changed(&mut self, answer: Result<(), Refused>, given: Table, after: Table) -> Said {
         Some(match answer {
             Ok(()) => format!("done {}", text::table(&after)),
             Err(r) => {
@@ -242,10 +253,13 @@ impl Crate {
         })
     }
 
-    fn remove(&mut self, t: MBR, number: usize) -> Said {
+    fn remove(&mut self, t: Table, number: usize) -> Said {
         let mut after = t.clone();
         Some(match run(Operation::Remove, || Ok(after.remove(number))) {
-            Ok(l) => format!("done {} {}", text::logical(&l), text::table(&after)),
+            Ok(l) => {
+                let mark = after.marks.remove(number - 5);
+                format!("done {} {}", text::logical(&l, &mark), text::table(&after))
+            }
             Err(r) => {
                 assert!(t == after, "a refused removal has changed the table");
                 format!("{} {}", refused(&r), text::table(&t))
@@ -253,21 +267,21 @@ impl Crate {
         })
     }
 
-    fn update_chs(&mut self, t: MBR, at: usize) -> Said {
-        let given = &t.logical_partitions[at];
+    fn update_chs(&mut self, t: Table, at: usize) -> Said {
+        let (given, mark) = (&t.logical_partitions[at], &t.marks[at]);
         let mut l = given.clone();
         Some(match run(Operation::Other, || l.update_chs(t.cylinders, t.heads, t.sectors)) {
-            Ok(()) => format!("done {}", text::logical(&l)),
+            Ok(()) => format!("done {}", text::logical(&l, mark)),
             Err(r) => {
                 if l != *given {
                     self.carry("update_chs, refused half way: some addresses are changed");
                 }
-                format!("{} {}", refused(&r), text::logical(given))
+                format!("{} {}", refused(&r), text::logical(given, mark))
             }
         })
     }
 
-    fn push(&mut self, t: &MBR, w: &mut Words) -> Option<Result<(MBR, usize), Refused>> {
+    fn push(&mut self, t: &Table, w: &mut Words) -> Option<Result<(Table, usize), Refused>> {
         if t.logical_partitions.len() > LOGICALS {
             return None;
         }
@@ -282,6 +296,7 @@ impl Crate {
             Ok(l) => {
                 assert!(after.logical_partitions.last() == Some(&l), "push answers the last one");
                 let number = after.len();
+                after.marks.push(NO_MARK);
                 Ok((after, number))
             }
             Err(r) => {
@@ -306,7 +321,7 @@ impl Crate {
     }
 
     /// The crate keeps its sector size; where the extract's is another one it is given that one first.
-    fn update_from(&mut self, t: MBR, x: &[u8]) -> Said {
+    fn update_from(&mut self, t: Table, x: &[u8]) -> Said {
         if t.logical_partitions.len() > LOGICALS {
             return None;
         }
@@ -326,7 +341,7 @@ impl Crate {
     }
 
     /// The commands of the program case_writing; a count over 24 is document 01's alone.
-    fn write_edited(&mut self, word: &str, t: MBR, x: &[u8]) -> Said {
+    fn write_edited(&mut self, word: &str, t: Table, x: &[u8]) -> Said {
         if t.logical_partitions.len() > LOGICALS {
             return None;
         }
@@ -339,18 +354,18 @@ impl Crate {
     }
 
     /// The new extract's length or a refusal's number, and the table afterwards.
-    fn write(&mut self, given: MBR, x: &[u8]) -> Option<(Result<usize, u32>, MBR)> {
+    fn write(&mut self, given: Table, x: &[u8]) -> Option<(Result<usize, u32>, Table)> {
         let extract = Extract::of(x)?;
         if given.sector_size != extract.sector_size {
             self.carry("writing to another sector size: the crate uses its table's");
         }
         let mut disk = Disk::new(extract.clone());
-        let mut after = MBR { sector_size: extract.sector_size, ..given.clone() };
+        let mut after = given.with(MBR { sector_size: extract.sector_size, ..given.mbr.clone() });
         let mut answer = run(Operation::Write, || after.write_into(&mut disk));
         if matches!(&answer, Err(r) if r.panic.as_deref() == Some("attempt to multiply with overflow")) {
             self.carry("writing, an EBR's place in bytes beyond u32: the crate panics");
             disk = Disk::by_sector(extract.clone());
-            after = MBR { sector_size: 1, ..given.clone() };
+            after = given.with(MBR { sector_size: 1, ..given.mbr.clone() });
             answer = run(Operation::Write, || after.write_into(&mut disk));
         }
         after.sector_size = given.sector_size;
@@ -367,7 +382,7 @@ impl Crate {
         Some((said, table))
     }
 
-    fn write_header(&mut self, t: MBR, x: &[u8]) -> Said {
+    fn write_header(&mut self, t: Table, x: &[u8]) -> Said {
         let mut disk = Disk::new(Extract::of(x)?);
         let answer = run(Operation::Write, || t.header.write_into(&mut disk));
         let first = match self.laid(answer, &disk.extract) {
@@ -417,7 +432,7 @@ pub fn careful_alone(word: &str, crate_said: &str, other: &str) -> bool {
 
 /// Edits of three numbers each: a partition's number (0 is the header's signature), a field and its value. See
 /// ../../../second/answers.py.
-pub fn edited(mut t: MBR, w: Words) -> MBR {
+pub fn edited(mut t: Table, w: Words) -> Table {
     let numbers: Vec<u32> = w.0.map(|n| n.parse().expect("a number")).collect();
     for edit in numbers.chunks(3) {
         let (number, field, value) = (edit[0] as usize, edit[1], edit[2]);
@@ -450,7 +465,7 @@ fn edited_link(l: &mut LogicalPartition, field: u32, value: u32) {
 }
 
 /// Thirty equal runs are lent: the answer, and the list afterwards. mbrman makes a list of its own.
-fn free_into(t: MBR, mut w: Words) -> String {
+fn free_into(t: Table, mut w: Words) -> String {
     let mut lent = vec![(w.u32(), w.u32()); 30];
     let answer = plain(|| t.find_free_sectors()).map(|runs| {
         lent[..runs.len()].copy_from_slice(&runs);
@@ -461,7 +476,7 @@ fn free_into(t: MBR, mut w: Words) -> String {
     format!("{first}{}", numbers.collect::<String>())
 }
 
-fn places(word: &str, mut t: MBR, mut w: Words) -> Said {
+fn places(word: &str, mut t: Table, mut w: Words) -> Said {
     said(match word {
         "free" => plain(|| t.find_free_sectors()).map(|runs| text::runs(&runs)),
         "first_place" => plain(|| t.find_first_place(w.u32())).map(text::none_or),

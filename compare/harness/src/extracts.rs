@@ -1,13 +1,12 @@
 //! What the archive says of whole extracts, held to what mbrman reads and to the adapter's own extracts; and of blocks that
 //! are none, held to the rule of include/crumbvessel.h.
 
-use mbrman::MBR;
-
 use crate::adapter::{Extract, RECORD};
 use crate::archive::{self, Archive};
 use crate::block::{self, BLOCK};
 use crate::crate_side::Crate;
 use crate::generate::{self, Rng};
+use crate::marked::Table;
 use crate::refusal::Refused;
 use crate::text;
 
@@ -15,7 +14,7 @@ fn upper(number: u32) -> u64 {
     u64::from(number) << 32
 }
 
-fn listing(read: Result<MBR, Refused>) -> String {
+fn listing(read: Result<Table, Refused>) -> String {
     let t = match read {
         Ok(t) => t,
         Err(r) => return format!("refused {}\n", r.number),
@@ -87,7 +86,7 @@ fn refusal(b: &[u8]) -> u64 {
 /// Blocks with one or two rules broken: every function says the same of them. Outputs that are no block.
 pub fn blocks(rng: &mut Rng) -> u64 {
     let (t, x, length) = generate::block_numbers(rng);
-    let mut b = block::of_table(&t);
+    let mut b = block::of_table(&Table::unmarked(t));
     generate::break_block(rng, &mut b);
     let mut held = 0;
     if refusal(&b) != 0 {

@@ -293,6 +293,18 @@ fn written(t: &MBR) -> Extract {
     disk.extract
 }
 
+/// Marks of random bytes in some of the EBRs, which the crate writes as zeros.
+fn mark(rng: &mut Rng, t: &MBR, disk: &mut Extract) {
+    for l in &t.logical_partitions {
+        let Some(record) = disk.records.get_mut(&l.absolute_ebr_lba).filter(|_| l.absolute_ebr_lba > 0) else { continue };
+        match rng.below(4) {
+            0 => record[478..510].iter_mut().for_each(|byte| *byte = rng.byte()),
+            1 => record[478 + rng.below(32) as usize] = rng.byte(),
+            _ => {}
+        }
+    }
+}
+
 fn change_record(rng: &mut Rng, t: &MBR, place: u32, record: &mut [u8]) {
     let at = 446 + 16 * rng.of(&[0, 0, 1, 1, 2, 3]) as usize;
     let mut put = |at: usize, bytes: &[u8]| record[at..at + bytes.len()].copy_from_slice(bytes);
@@ -402,7 +414,7 @@ fn chs_cases(rng: &mut Rng, out: &mut Cases) {
 }
 
 fn header_words(t: &MBR) -> String {
-    let line = text::table_line(t);
+    let line = text::table_line(t, || 0);
     line.split(' ').skip(9).take(48).collect::<Vec<_>>().join(" ")
 }
 
@@ -432,6 +444,7 @@ fn any_disk(rng: &mut Rng) -> (MBR, Extract) {
     let most = rng.of(&[24, 24, 24, 27]);
     let t = if rng.one_in(3) { table(rng) } else { sound(rng, most) };
     let mut disk = written(&t);
+    mark(rng, &t, &mut disk);
     for _ in 0..rng.of(&[0, 1, 1, 1, 2, 3, 5]) {
         change_disk(rng, &t, &mut disk);
     }
@@ -618,7 +631,7 @@ fn read_cases(rng: &mut Rng, out: &mut Cases, read: &MBR, disk: &Extract) {
 
 /// The commands on T.
 fn own_cases(rng: &mut Rng, out: &mut Cases, t: &MBR, disk: Option<Extract>) {
-    out.lines.push(text::table_line(t));
+    out.lines.push(text::table_line(t, || rng.of(&[0, 0, 94, 255])));
     out.case("t_sound".to_string());
     table_cases(rng, out, t, false);
     let disk = target(rng, t, disk);
@@ -656,7 +669,7 @@ fn write_cases(rng: &mut Rng, out: &mut Cases) {
             t.logical_partitions[at] = l;
         }
         let disk = target(rng, &t, None);
-        out.lines.push(text::table_line(&t));
+        out.lines.push(text::table_line(&t, || rng.of(&[0, 0, 94, 255])));
         out.lend(&disk.bytes());
         lend_out(rng, out, &disk);
         out.case("t_write".to_string());
@@ -798,6 +811,7 @@ fn careful_cases(rng: &mut Rng, out: &mut Cases) {
         t = sound(rng, 24);
     }
     let mut disk = written(&t);
+    mark(rng, &t, &mut disk);
     for _ in 0..rng.of(&[0, 0, 0, 0, 1, 1, 2]) {
         change_disk(rng, &t, &mut disk);
     }

@@ -1,14 +1,13 @@
 //! What case lines work on: X, the lent input; O, the lent output; T, a table by value.
 
-use mbrman::MBR;
-
+use crate::marked::Table;
 use crate::text::Words;
 
 #[derive(Default)]
 pub struct Given {
     pub x: Vec<u8>,
     pub o: Vec<u8>,
-    pub t: Option<MBR>,
+    pub t: Option<Table>,
 }
 
 impl Given {

@@ -24,6 +24,7 @@ mod crate_side;
 mod extracts;
 mod generate;
 mod given;
+mod marked;
 mod ours;
 mod refusal;
 mod text;

@@ -2,6 +2,8 @@
 
 use mbrman::{LogicalPartition, MBRHeader, MBRPartitionEntry, CHS, MBR};
 
+use crate::marked::{Mark, Table};
+
 pub fn checksum(bytes: &[u8]) -> u64 {
     bytes.iter().fold(0, |total, &byte| (total * 31 + u64::from(byte)) % 4294967291)
 }
@@ -40,19 +42,20 @@ pub fn header(h: &MBRHeader) -> String {
     format!("{} {} {entries}", checksum(&h.bootstrap_code), hex(&marks))
 }
 
-pub fn logical(l: &LogicalPartition) -> String {
+pub fn logical(l: &LogicalPartition, mark: &Mark) -> String {
     format!(
-        "{} {} {} {} {} {}",
+        "{} {} {} {} {} {} {}",
         entry(&l.partition),
         l.absolute_ebr_lba,
         none_or(l.ebr_sectors),
         chs(&l.ebr_first_chs),
         none_or(l.ebr_last_chs.as_ref().map(chs)),
-        checksum(&l.bootstrap_code)
+        checksum(&l.bootstrap_code),
+        checksum(mark)
     )
 }
 
-pub fn table(t: &MBR) -> String {
+pub fn table(t: &Table) -> String {
     let mut said = format!(
         "{} {} {} {} {} {} {} {}",
         t.sector_size,
@@ -64,9 +67,9 @@ pub fn table(t: &MBR) -> String {
         t.logical_partitions.len(),
         header(&t.header)
     );
-    for l in t.logical_partitions.iter().take(24) {
+    for (l, mark) in t.logical_partitions.iter().zip(&t.marks).take(24) {
         said.push(' ');
-        said.push_str(&logical(l));
+        said.push_str(&logical(l, mark));
     }
     said
 }
@@ -136,17 +139,18 @@ impl<'a> Words<'a> {
     }
 
     /// A table as a line of `t` has it: see compare/second.py.
-    pub fn table(&mut self) -> MBR {
+    pub fn table(&mut self) -> Table {
         let (sector_size, disk_size, align) = (self.u32(), self.u32(), self.u32());
         let (cylinders, heads, sectors) = (self.u16(), self.u8(), self.u8());
         let count = self.u32();
         let code = code(self.u32(), 440);
         let header = self.header(&code);
-        let logical_partitions = (0..count).map(|_| self.logical()).collect();
-        MBR { sector_size, header, logical_partitions, align, cylinders, heads, sectors, disk_size }
+        let (logical_partitions, marks) = (0..count).map(|_| self.logical()).unzip();
+        let mbr = MBR { sector_size, header, logical_partitions, align, cylinders, heads, sectors, disk_size };
+        Table { mbr, marks }
     }
 
-    fn logical(&mut self) -> LogicalPartition {
+    fn logical(&mut self) -> (LogicalPartition, Mark) {
         let partition = self.entry();
         let absolute_ebr_lba = self.u32();
         let ebr_sectors = match self.word() {
@@ -160,11 +164,12 @@ impl<'a> Words<'a> {
         };
         let mut bootstrap_code = [0; 446];
         bootstrap_code.copy_from_slice(&code(self.u32(), 446));
-        LogicalPartition { partition, absolute_ebr_lba, ebr_sectors, ebr_first_chs, ebr_last_chs, bootstrap_code }
+        let mark = code(self.u32(), 32).try_into().expect("32 bytes");
+        (LogicalPartition { partition, absolute_ebr_lba, ebr_sectors, ebr_first_chs, ebr_last_chs, bootstrap_code }, mark)
     }
 }
 
-/// Code that is told from others by its first and last byte.
+/// Code, or a mark, that is told from others by its first and last byte.
 pub fn code(number: u32, length: usize) -> Vec<u8> {
     let mut code = vec![0; length];
     code[0] = (number % 256) as u8;
@@ -172,8 +177,8 @@ pub fn code(number: u32, length: usize) -> Vec<u8> {
     code
 }
 
-/// The line of `t` for a table.
-pub fn table_line(t: &MBR) -> String {
+/// The line of `t` for a table, with the numbers of its marks.
+pub fn table_line(t: &MBR, mut mark: impl FnMut() -> u32) -> String {
     let h = &t.header;
     let mut words = vec!["t".to_string()];
     let fields = [t.sector_size, t.disk_size, t.align, t.cylinders.into(), t.heads.into(), t.sectors.into()];
@@ -190,6 +195,7 @@ pub fn table_line(t: &MBR) -> String {
         words.push(chs(&l.ebr_first_chs));
         words.push(none_or(l.ebr_last_chs.as_ref().map(chs)));
         words.push(l.bootstrap_code[0].to_string());
+        words.push(mark().to_string());
     }
     words.join(" ")
 }

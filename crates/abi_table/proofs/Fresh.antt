@@ -5,18 +5,18 @@ use mathlib.Core.List.{List, [], _∷_, _++_}
 use Prim.Native.Nat.{ℕ, _+_, _-_, _*_, _/_, _≤_, _<_, _^_}
 use native.Mathlib.Omega.{arith}
 use lib.Dec.{ltb}
-use lib.ListN.{length-replicate}
 use borrow.Author.Tests.{ltb-true, leb-true}
 use Rattle.base.specs.Pick.{pick}
 use Rattle.base.specs.Checks.{Check, _!_, AllHold}
 use Rattle.base.proofs.Checks.{hold-left, hold-right}
 use Rattle.record_entry.specs.declared.MBRPartitionEntry.{MBRPartitionEntry}
 use Rattle.record_ebr.specs.Ebr.{noKept}
+use Rattle.record_ebr.proofs.Laws.{no-kept-ok}
 use Rattle.table.specs.declared.MaybeSectors.{MaybeSectors}
 use Rattle.table.specs.declared.MaybeSectors.the-variants.{Absent, Present}
 use Rattle.table.specs.declared.LogicalPartition.{LogicalPartition}
 use Rattle.table.specs.Table.{most}
-use Rattle.block.specs.Fits.{LastFits, SlotFits}
+use Rattle.block.specs.Fits.{LastFits, KeptLong, SlotFits}
 use Rattle.table_address.specs.declared.Geometry.{Geometry}
 use Rattle.table_address.specs.Address.{complete, addressIn, addressChecks, lastChecks, linkChecks, linkAddress, updateChecks, addressed}
 use Rattle.table_push.specs.declared.request.Request.{Request}
@@ -55,11 +55,15 @@ addressed-fits g l f h =
       sectors = f .sectors;
       first = cylinder g e k₃;
       last = link-fits g e (l .«ebr_sectors») k₄;
-      code = f .code;
+      kept = f .kept;
     }
 
+-- no code and no mark
+no-kept-long : KeptLong noKept
+no-kept-long = record { code = no-kept-ok .long; mark = no-kept-ok .mark .long }
+
 fresh-fits : (later : Bool) (q : Request) → placeOf q < 2 ^ 32 → sizeOf q < 2 ^ 32 → placeOf q + q .align < 2 ^ 32 → SlotFits (fresh later q)
-unfolding fresh noKept
+unfolding fresh
 fresh-fits true q a b c =
     record {
       partition = record { first = omega arith; last = omega arith; start = c; sectors = omega arith };
@@ -67,7 +71,7 @@ fresh-fits true q a b c =
       sectors = b;
       first = omega arith;
       last = omega arith;
-      code = length-replicate {A = ℕ} 446 0;
+      kept = no-kept-long;
     }
 fresh-fits false q a b c =
     record {
@@ -76,7 +80,7 @@ fresh-fits false q a b c =
       sectors = tt;
       first = omega arith;
       last = tt;
-      code = length-replicate {A = ℕ} 446 0;
+      kept = no-kept-long;
     }
 
 new-fits : (later : Bool) (q : Request) → SlotFits (fresh later q) → AllHold (geometryChecks later q) → SlotFits (newLogical later q)

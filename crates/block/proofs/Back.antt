@@ -17,7 +17,7 @@ use Rattle.base.proofs.Checks.{checked-none}
 use Rattle.record_chs.specs.declared.CHS.{CHS}
 use Rattle.record_entry.specs.declared.MBRPartitionEntry.{MBRPartitionEntry}
 use Rattle.record_ebr.specs.declared.Kept.{Kept}
-use Rattle.record_ebr.specs.Ebr.{keptOf}
+use Rattle.record_ebr.specs.Ebr.{markLength, keptAt}
 use Rattle.record_mbr.specs.declared.MBRHeader.{MBRHeader}
 use Rattle.record_mbr.specs.Mbr.{codeOf}
 use Rattle.table.specs.declared.MaybeSectors.{MaybeSectors}
@@ -27,9 +27,9 @@ use Rattle.table.specs.declared.MaybeChs.the-variants.{Absent as NoChs, Present
 use Rattle.table.specs.declared.LogicalPartition.{LogicalPartition}
 use Rattle.table.specs.declared.MBR.{MBR}
 use Rattle.table.specs.Table.{most, noLogical}
-use Rattle.block.specs.Block.{part, chsPart, chsIn, entryPart, entryIn, sectorsPart, sectorsTag, sectorsIn, lastPart, lastTag, lastChsIn, slotFront, slotPart, slotOf, tagOf, codePart, entriesPart, headerPart, headerIn, frontPart, slotsPart, tagsPart, slotAt, tagAt, slotsIn, possible, tagged, blockBytes, tableIn, blockChecks, headerLength, slotLength, slotsOffset, tagsOffset, blockLength}
+use Rattle.block.specs.Block.{part, chsPart, chsIn, entryPart, entryIn, sectorsPart, sectorsTag, sectorsIn, lastPart, lastTag, lastChsIn, slotFront, keptPart, slotPart, slotOf, tagOf, codePart, entriesPart, headerPart, headerIn, frontPart, slotsPart, tagsPart, slotAt, tagAt, slotsIn, possible, tagged, blockBytes, tableIn, blockChecks, headerLength, slotCode, slotMark, slotLength, slotsOffset, tagsOffset, blockLength}
 use Rattle.record_mbr.specs.Fits.{ChsFits, EntryFits, HeaderFits}
-use Rattle.block.specs.Fits.{SectorsFit, LastFits, SlotFits, SlotsFit, TableFits}
+use Rattle.block.specs.Fits.{SectorsFit, LastFits, KeptLong, SlotFits, SlotsFit, TableFits}
 use Rattle.block.proofs.Laws.{length-front, length-slot, length-tags, part-at}
 
 -- an address from its four bytes, and an entry from its eighteen
@@ -67,11 +67,16 @@ module _ (e : MBRPartitionEntry) (a : ℕ) (f : CHS) (q : List ℕ) where
   last-there (Present v) NoChs k = refl
   last-there (Present v) (SomeChs c) k = ap SomeChs (chs-back c k)
 
-kept-there : (x : List ℕ) (k : Kept) → length (k .«bootstrap_code») ≡ 446 → x ≡ k .«bootstrap_code» → keptOf x ≡ k
-unfolding keptOf
-kept-there x k n e =
-    let c : take 446 x ≡ k .«bootstrap_code» = ap (take 446) e ∙ take-all 446 (k .«bootstrap_code») (omega arith) in
-    λ i. record { «bootstrap_code» = c i }
+-- code and mark, behind a front
+kept-there : (f : List ℕ) (k : Kept) → length f ≡ slotCode → KeptLong k → keptAt slotCode slotMark (f ++ keptPart k) ≡ k
+unfolding keptAt part
+kept-there f k a n =
+    let s : List ℕ = f ++ keptPart k in
+    let c : part s slotCode 446 ≡ k .«bootstrap_code» = part-at s f (k .«bootstrap_code») (k .mark) slotCode 446 refl a (n .code) in
+    let w : length (f ++ k .«bootstrap_code») ≡ slotMark = length-append f (k .«bootstrap_code») ∙ rw (a, n .code) in
+    let e : s ≡ (f ++ k .«bootstrap_code») ++ (k .mark ++ []) = sym (append-assoc f (k .«bootstrap_code») (k .mark)) ∙ ap (λ (r : List ℕ). (f ++ k .«bootstrap_code») ++ r) (sym (append-nil (k .mark))) in
+    let m : part s slotMark markLength ≡ k .mark = part-at s (f ++ k .«bootstrap_code») (k .mark) [] slotMark markLength e w (n .mark) in
+    λ i. record { «bootstrap_code» = c i; mark = m i }
 
 pub slot-back : (l : LogicalPartition) → SlotFits l → slotOf (tagOf l) (slotPart l) ≡ l
 unfolding slotPart
@@ -79,17 +84,16 @@ slot-back l k =
     let e = l .partition in
     let a = l .«absolute_ebr_lba» .0 in
     let f = l .«ebr_first_chs» in
-    let q = l .kept .«bootstrap_code» in
+    let q = keptPart (l .kept) in
     let m = l .«ebr_sectors» in
     let n = l .«ebr_last_chs» in
-    let c : part (slotFront l ++ q) 34 446 ≡ q = part-at (slotFront l ++ q) (slotFront l) q [] 34 446 (ap (λ (r : List ℕ). slotFront l ++ r) (sym (append-nil q))) (length-front l) (k .code) in
     λ i. record {
       partition = entry-there e a f q (k .partition) m n i;
       «absolute_ebr_lba» = record { 0 = place-there e a f q (k .place) m n i };
       «ebr_sectors» = sectors-there e a f q m n (k .sectors) i;
       «ebr_first_chs» = first-there e a f q (k .first) m n i;
       «ebr_last_chs» = last-there e a f q m n (k .last) i;
-      kept = kept-there (part (slotFront l ++ q) 34 446) (l .kept) (k .code) c i;
+      kept = kept-there (slotFront l) (l .kept) (length-front l) (k .kept) i;
     }
 
 pub slot-tag : (l : LogicalPartition) → possible (tagOf l) ≡ true
@@ -183,17 +187,17 @@ pub length-slots : (ls : List LogicalPartition) → SlotsFit ls → length (slot
 unfolding slotsPart
 length-slots [] k = refl
 length-slots (l ∷ ls) k =
-    length-append (slotPart l) (slotsPart ls) ∙ omega (arith, length-slot l (k .0 .code), length-slots ls (k .1))
+    length-append (slotPart l) (slotsPart ls) ∙ omega (arith, length-slot l (k .0 .kept), length-slots ls (k .1))
 
 slot-there : (b p q : List ℕ) (ls : List LogicalPartition) (o n : ℕ) → b ≡ p ++ (slotsPart ls ++ q) → length p ≡ o → SlotsFit ls → n < length ls
     → part b (o + slotLength * n) slotLength ≡ slotPart (getD ls n noLogical)
 unfolding slotsPart
 slot-there b p q [] o n e a k h = absurd (omega arith)
 slot-there b p q (l ∷ ls) o zero e a k h =
-    part-at b p (slotPart l) (slotsPart ls ++ q) (o + slotLength * 0) slotLength (e ∙ ap (λ (r : List ℕ). p ++ r) (append-assoc (slotPart l) (slotsPart ls) q)) (omega arith) (length-slot l (k .0 .code))
+    part-at b p (slotPart l) (slotsPart ls ++ q) (o + slotLength * 0) slotLength (e ∙ ap (λ (r : List ℕ). p ++ r) (append-assoc (slotPart l) (slotsPart ls) q)) (omega arith) (length-slot l (k .0 .kept))
 slot-there b p q (l ∷ ls) o (suc n) e a k h =
     let z : o + slotLength * suc n ≡ (o + slotLength) + slotLength * n = omega arith in
-    let w : length (p ++ slotPart l) ≡ o + slotLength = length-append p (slotPart l) ∙ omega (arith, length-slot l (k .0 .code)) in
+    let w : length (p ++ slotPart l) ≡ o + slotLength = length-append p (slotPart l) ∙ omega (arith, length-slot l (k .0 .kept)) in
     let f : b ≡ (p ++ slotPart l) ++ (slotsPart ls ++ q) = e ∙ ap (λ (r : List ℕ). p ++ r) (append-assoc (slotPart l) (slotsPart ls) q) ∙ sym (append-assoc p (slotPart l) (slotsPart ls ++ q)) in
     ap (λ (i : ℕ). part b i slotLength) z
     ∙ slot-there b (p ++ slotPart l) q ls (o + slotLength) n f w (k .1) (omega arith)
@@ -256,7 +260,7 @@ module _ (t : MBR) (k : TableFits t) where
   m₂ : length (front ++ headerPart (t .header)) ≡ slotsOffset
   m₂ = length-append front (headerPart (t .header)) ∙ rw (length-header (t .header) (k .header))
 
-  -- a block has 12,084 bytes
+  -- a block has 12,852 bytes
   pub length-block : length (blockBytes t) ≡ blockLength
   length-block =
       ap length in-parts ∙ length-append (front ++ headerPart (t .header)) (slots ++ tags)

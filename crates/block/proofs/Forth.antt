@@ -15,12 +15,12 @@ use Rattle.base.specs.Bytes.{Bytes, bytesAt, number, bytesOf, little}
 use Rattle.base.specs.Checks.{first-fail}
 use Rattle.base.proofs.Bytes.{byte-at, bytes-take, bytes-drop, bytesOf-number, bytesAt-part, parts-join, both-true}
 use Rattle.base.proofs.Checks.{none-fails}
-use Rattle.record_ebr.specs.Ebr.{keptOf}
+use Rattle.record_ebr.specs.Ebr.{markLength, keptAt}
 use Rattle.record_mbr.specs.Mbr.{codeOf}
 use Rattle.table.specs.declared.MaybeSectors.the-variants.{Absent, Present}
 use Rattle.table.specs.declared.MaybeChs.the-variants.{Absent as NoChs, Present as SomeChs}
 use Rattle.table.specs.Table.{most}
-use Rattle.block.specs.Block.{part, chsPart, chsIn, entryPart, entryIn, sectorsPart, sectorsTag, sectorsIn, lastPart, lastTag, lastChsIn, slotPart, slotOf, tagOf, headerPart, headerIn, frontPart, slotsPart, tagsPart, slotAt, tagAt, slotsIn, possible, tagged, blockBytes, tableIn, blockChecks, headerLength, slotLength, slotsOffset, tagsOffset, blockLength}
+use Rattle.block.specs.Block.{part, chsPart, chsIn, entryPart, entryIn, sectorsPart, sectorsTag, sectorsIn, lastPart, lastTag, lastChsIn, keptPart, slotPart, slotOf, tagOf, headerPart, headerIn, frontPart, slotsPart, tagsPart, slotAt, tagAt, slotsIn, possible, tagged, blockBytes, tableIn, blockChecks, headerLength, slotCode, slotMark, slotLength, slotsOffset, tagsOffset, blockLength}
 use Rattle.block.specs.Clean.{SlotClean, Clean}
 use Rattle.block.proofs.Laws.{slots-snoc, tags-snoc}
 
@@ -70,9 +70,10 @@ tag-forth tag s p = go (eqb (tag % 2) 0) (ltb tag 2) refl refl
     go false true e f = omega (arith, small, eqb-false (tag % 2) 0 e, ltb-true tag 2 f)
     go false false e f = omega (arith, small, eqb-false (tag % 2) 0 e, ltb-false tag 2 f)
 
-kept-forth : (x : List ℕ) → length x ≤ 446 → keptOf x .«bootstrap_code» ≡ x
-unfolding keptOf
-kept-forth x h = take-all 446 x h
+kept-forth : (s : List ℕ) → keptPart (keptAt slotCode slotMark s) ≡ take (446 + markLength) (drop slotCode s)
+unfolding keptAt
+kept-forth s =
+    parts-join (drop slotCode s) (take 446 (drop slotCode s)) (take markLength (drop slotMark s)) 446 markLength (446 + markLength) refl (ap (take markLength) (sym (drop-drop 446 slotCode s))) refl
 
 pub part-long : (b : List ℕ) (at n : ℕ) → at + n ≤ length b → length (part b at n) ≡ n
 unfolding part
@@ -103,8 +104,7 @@ slot-forth tag s b n k =
     let y₃ : x₃ ≡ take 26 s = parts-join s x₂ _ 22 4 26 y₂ (sectors-forth s b tag (k .sectors) ∙ there 22 4 (omega arith)) refl in
     let y₄ : x₄ ≡ take 30 s = parts-join s x₃ _ 26 4 30 y₃ (chs-forth s b 26 ∙ there 26 4 (omega arith)) refl in
     let y₅ : x₅ ≡ take 34 s = parts-join s x₄ _ 30 4 34 y₄ (last-forth s b tag (k .last) ∙ there 30 4 (omega arith)) refl in
-    let c : l .kept .«bootstrap_code» ≡ take 446 (drop 34 s) = kept-forth (part s 34 446) (omega (arith, part-long s 34 446 (omega (arith, n)))) ∙ part-is s 34 446 in
-    parts-join s x₅ _ 34 446 slotLength y₅ c refl ∙ take-all slotLength s (omega (arith, n))
+    parts-join s x₅ _ slotCode (446 + markLength) slotLength y₅ (kept-forth s) refl ∙ take-all slotLength s (omega (arith, n))
 
 code-forth : (s : List ℕ) → codeOf s ≡ take 440 s
 unfolding codeOf

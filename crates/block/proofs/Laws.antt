@@ -1,7 +1,7 @@
 -- Lengths and parts of a block. Assumes nothing.
 use mathlib.Core.Path.{_≡_, refl, sym, ap, _∙_}
 use mathlib.Core.List.{List, [], _∷_, _++_, append-assoc, append-nil}
-use Prim.Native.Nat.{ℕ, suc}
+use Prim.Native.Nat.{ℕ, suc, _+_}
 use lib.ListN.{length, length-append}
 use lib.Seq.{take-at, drop-at}
 use Rattle.base.specs.Bytes.{bytesOf, little}
@@ -10,7 +10,9 @@ use Rattle.table.specs.declared.MaybeSectors.the-variants.{Absent, Present}
 use Rattle.table.specs.declared.MaybeChs.{MaybeChs}
 use Rattle.table.specs.declared.MaybeChs.the-variants.{Absent as NoChs, Present as SomeChs}
 use Rattle.table.specs.declared.LogicalPartition.{LogicalPartition}
-use Rattle.block.specs.Block.{part, chsPart, entryPart, sectorsPart, lastPart, slotFront, slotPart, slotsPart, tagOf, tagsPart, slotLength}
+use Rattle.record_ebr.specs.Ebr.{markLength}
+use Rattle.block.specs.Fits.{KeptLong}
+use Rattle.block.specs.Block.{part, chsPart, entryPart, sectorsPart, lastPart, slotFront, keptPart, slotPart, slotsPart, tagOf, tagsPart, slotLength}
 
 pub length-sectors : (m : MaybeSectors) → length (sectorsPart m) ≡ 4
 length-sectors Absent = refl
@@ -29,9 +31,11 @@ length-front l =
     let n₄ : length x₄ ≡ 30 = length-append x₃ (chsPart (l .«ebr_first_chs»)) ∙ rw n₃ in
     length-append x₄ (lastPart (l .«ebr_last_chs»)) ∙ rw (n₄, length-last (l .«ebr_last_chs»))
 
-pub length-slot : (l : LogicalPartition) → length (l .kept .«bootstrap_code») ≡ 446 → length (slotPart l) ≡ slotLength
+pub length-slot : (l : LogicalPartition) → KeptLong (l .kept) → length (slotPart l) ≡ slotLength
 unfolding slotPart
-length-slot l n = length-append (slotFront l) (l .kept .«bootstrap_code») ∙ rw (length-front l, n)
+length-slot l n =
+    let k : length (keptPart (l .kept)) ≡ 446 + markLength = length-append (l .kept .«bootstrap_code») (l .kept .mark) ∙ rw (n .code, n .mark) in
+    length-append (slotFront l) (keptPart (l .kept)) ∙ rw (length-front l, k)
 
 -- one slot more
 pub slots-snoc : (xs : List LogicalPartition) (l : LogicalPartition) → slotsPart (xs ++ (l ∷ [])) ≡ slotsPart xs ++ slotPart l

@@ -12,7 +12,8 @@ use Rattle.base.specs.Checks.{Check, _!_}
 use Rattle.record_chs.specs.declared.CHS.{CHS}
 use Rattle.record_chs.specs.Chs.{chs, noChs}
 use Rattle.record_entry.specs.declared.MBRPartitionEntry.{MBRPartitionEntry}
-use Rattle.record_ebr.specs.Ebr.{keptOf}
+use Rattle.record_ebr.specs.declared.Kept.{Kept}
+use Rattle.record_ebr.specs.Ebr.{markLength, keptAt}
 use Rattle.record_mbr.specs.declared.MBRHeader.{MBRHeader}
 use Rattle.record_mbr.specs.Mbr.{codeOf}
 use Rattle.table.specs.declared.MaybeSectors.{MaybeSectors}
@@ -23,15 +24,22 @@ use Rattle.table.specs.declared.LogicalPartition.{LogicalPartition}
 use Rattle.table.specs.declared.MBR.{MBR}
 use Rattle.table.specs.Table.{most, countCheck}
 
--- the bytes of an entry, of the header, of a slot
+-- the bytes of an entry and of the header
 abbrev pub entryLength : ℕ
 entryLength = 18
 
 abbrev pub headerLength : ℕ
 headerLength = 446 + 4 * entryLength + 2
 
+-- where the code and the mark stand in a slot, and its bytes
+abbrev pub slotCode : ℕ
+slotCode = entryLength + 16
+
+abbrev pub slotMark : ℕ
+slotMark = slotCode + 446
+
 abbrev pub slotLength : ℕ
-slotLength = entryLength + 16 + 446
+slotLength = slotMark + markLength
 
 -- where the slots begin, behind the front of 20 and the header; where the tags begin
 abbrev pub slotsOffset : ℕ
@@ -98,14 +106,17 @@ sectorsIn tag s at = pick (eqb (tag % 2) 0) Absent (Present (number little (byte
 abbrev pub lastChsIn : ℕ → List ℕ → ℕ → MaybeChs
 lastChsIn tag s at = pick (ltb tag 2) NoChs (SomeChs (chsIn s at))
 
--- rule Z11: a slot, entry, EBR place, link sectors, first and last link address, code
+-- rule Z11: a slot, entry, EBR place, link sectors, first and last link address, code, mark
 abbrev pub slotFront : LogicalPartition → List ℕ
 slotFront l =
     entryPart (l .partition) ++ bytesOf little 4 (l .«absolute_ebr_lba» .0) ++ sectorsPart (l .«ebr_sectors») ++ chsPart (l .«ebr_first_chs»)
     ++ lastPart (l .«ebr_last_chs»)
 
+abbrev pub keptPart : Kept → List ℕ
+keptPart k = k .«bootstrap_code» ++ k .mark
+
 unfoldable pub slotPart : LogicalPartition → List ℕ
-slotPart l = slotFront l ++ l .kept .«bootstrap_code»
+slotPart l = slotFront l ++ keptPart (l .kept)
 
 -- the logical partition in a slot with its tag
 abbrev pub slotOf : ℕ → List ℕ → LogicalPartition
@@ -116,7 +127,7 @@ slotOf tag s =
       «ebr_sectors» = sectorsIn tag s 22;
       «ebr_first_chs» = chsIn s 26;
       «ebr_last_chs» = lastChsIn tag s 30;
-      kept = keptOf (part s 34 446);
+      kept = keptAt slotCode slotMark s;
     }
 
 -- rule Z9: the header, code, disk signature, copy mark, four entries, signature

@@ -3,6 +3,8 @@ use Prim.Native.Nat.{_<_, _^_}
 use mathlib.Core.List.{List, [], _∷_}
 use mathlib.Core.Path.{_≡_}
 use lib.ListN.{length}
+use Rattle.record_ebr.specs.declared.Kept.{Kept}
+use Rattle.record_ebr.specs.Ebr.{markLength}
 use Rattle.record_mbr.specs.Fits.{ChsFits, EntryFits, HeaderFits}
 use Rattle.table.specs.declared.MaybeSectors.{MaybeSectors}
 use Rattle.table.specs.declared.MaybeSectors.the-variants.{Absent, Present}
@@ -20,13 +22,18 @@ abbrev pub LastFits : MaybeChs → Type 0
 LastFits NoChs = Unit {0}
 LastFits (SomeChs c) = ChsFits c
 
+-- code and mark are as long as their arrays
+pub record KeptLong (k : Kept) : Type 0 where
+  pub code : length (k .«bootstrap_code») ≡ 446
+  pub mark : length (k .mark) ≡ markLength
+
 pub record SlotFits (l : LogicalPartition) : Type 0 where
   pub partition : EntryFits (l .partition)
   pub place : l .«absolute_ebr_lba» .0 < 2 ^ 32
   pub sectors : SectorsFit (l .«ebr_sectors»)
   pub first : ChsFits (l .«ebr_first_chs»)
   pub last : LastFits (l .«ebr_last_chs»)
-  pub code : length (l .kept .«bootstrap_code») ≡ 446
+  pub kept : KeptLong (l .kept)
 
 abbrev pub SlotsFit : List LogicalPartition → Type 0
 SlotsFit [] = Unit {0}

@@ -10,7 +10,7 @@ ghost use Rattle.table.specs.Table.{most};
 ghost use Rattle.block.specs.Block.{blockLength};
 ghost use Rattle.block_slot.specs.Changed.{withSlot};
 
-// A logical partition behind n others that has no code: its zeros are put from here, and not carried along.
+// A logical partition behind n others that has neither code nor mark: their zeros are put from here, and not carried along.
 pub fn add_new(b: &mut [u8], n: usize, l: LogicalPartition)
     requires { ⌜ (length (now b) ≡ blockLength) × (n < most) × (l .kept ≡ noKept) ⌝ }
     ensures { λ _. ⌜ now (b .exit) ≡ withSlot (now (b .entry)) n l ⌝ }

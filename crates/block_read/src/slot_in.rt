@@ -1,5 +1,7 @@
 // A logical partition and what it is made of, read from parts of a block.
 use block::SLOT;
+use block::SLOT_CODE;
+use block::SLOT_MARK;
 use record_chs::CHS;
 use record_entry::MBRPartitionEntry;
 use table::DiskLba;
@@ -90,7 +92,7 @@ pub fn get_slot(s: &[u8], tag: u8) -> LogicalPartition
     let sectors = get_sectors(s, 22, tag);
     let first = get_chs(s, 26);
     let last = get_last(s, 30, tag);
-    let kept = record_ebr::kept_of(part_of(s, 34, 446));
+    let kept = record_ebr::kept_at(s, SLOT_CODE, SLOT_MARK);
     LogicalPartition {
         partition: partition,
         absolute_ebr_lba: DiskLba(place),

@@ -1,4 +1,6 @@
 // A logical partition and what it is made of, written as parts of a block.
+use block::SLOT_CODE;
+use block::SLOT_MARK;
 use record_chs::CHS;
 use record_entry::MBRPartitionEntry;
 use table::LogicalPartition;
@@ -87,5 +89,7 @@ pub fn put_slot(d: &mut [u8], at: usize, l: LogicalPartition)
 {
     put_slot_front(d, at, l);
     let code = l.kept.bootstrap_code;
-    base::copy_in(d, at + 34, &code);
+    base::copy_in(d, at + SLOT_CODE, &code);
+    let mark = l.kept.mark;
+    base::copy_in(d, at + SLOT_MARK, &mark);
 }

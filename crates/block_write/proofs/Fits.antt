@@ -44,7 +44,10 @@ slot-fits l us g = record {
   sectors = sectors-fit (l .«ebr_sectors») _ (g .1 .1 .1 .1 .0);
   first = omega (arith, g .1 .1 .1 .1 .1 .0);
   last = last-fits (l .«ebr_last_chs») _ (g .1 .1 .1 .1 .1 .1 .0);
-  code = sym (length-map (l .kept .«bootstrap_code») _) ∙ g .1 .1 .1 .1 .1 .1 .1 .0 .1 .1 .0 .1 .0 .1;
+  kept = record {
+    code = sym (length-map (l .kept .«bootstrap_code») _) ∙ g .1 .1 .1 .1 .1 .1 .1 .0 .1 .1 .0 .1 .0 .1;
+    mark = sym (length-map (l .kept .mark) _) ∙ g .1 .1 .1 .1 .1 .1 .1 .0 .1 .1 .1 .0 .1 .0 .1;
+  };
 }
 
 pub slots-fit : (ls : List LogicalPartition) (us : List Val) → shadow (each (slotField .row .Denot) (slotField .row .own) (map (slotField .into) ls) us) → SlotsFit ls

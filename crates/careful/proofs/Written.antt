@@ -20,7 +20,7 @@ use Rattle.record_chs.specs.Chs.{ChsOk}
 use Rattle.record_entry.specs.declared.MBRPartitionEntry.{MBRPartitionEntry}
 use Rattle.record_entry.specs.Entry.{flagOk, EntryOk}
 use Rattle.record_ebr.specs.declared.EBRHeader.{EBRHeader}
-use Rattle.record_ebr.specs.Ebr.{ebrChecks, ebrReadChecks, ebrOf, ebrBytes, KeptOk, EbrOk}
+use Rattle.record_ebr.specs.Ebr.{ebrChecks, ebrReadChecks, ebrOf, ebrBytes, MarkOk, KeptOk, EbrOk}
 use Rattle.record_ebr.proofs.Laws.{ebr-back, ebr-reads, ebr-record, ebr-ok}
 use Rattle.extract.specs.Disk.{Disk, Store, stored}
 use Rattle.extract.proofs.Disk.{sector-same, sector-other, size-stored}
@@ -95,16 +95,21 @@ module _ (e : MBRPartitionEntry) (l : LogicalPartition) (n : Option LogicalParti
   unfolding ebrFor
   header-image = ap (ebr (bodyOf l)) (next-back (e .sys) (leads (e .«starting_lba») n) k)
 
-  written : answer (ebrChecks (ebrBytes (ebrFor e l n))) (ebrOf (ebrBytes (ebrFor e l n))) ≡ gives (ebrFor e l n)
-  unfolding ebrFor
+  abbrev written-bytes : List ℕ
+  written-bytes = ebrBytes (l .kept .mark) (ebrFor e l n)
+
+  written : answer (ebrChecks written-bytes) (ebrOf written-bytes) ≡ gives (ebrFor e l n)
+  unfolding ebrFor bodyOf
   written =
       let h : EBRHeader = ebrFor e l n in
-      let f = none-fails (ebrReadChecks (ebrBytes h)) (ebr-reads h header-ok (b .flag) (link-flag (e .sys) (leads (e .«starting_lba») n))) in
-      checked-none (ebrChecks (ebrBytes h)) refuses (gives (ebrOf (ebrBytes h))) (all-hold (ebrChecks (ebrBytes h)) (f .1)) ∙ ap gives (ebr-back h header-ok)
+      let m : List ℕ = l .kept .mark in
+      let w : MarkOk m = b .kept .mark in
+      let f = none-fails (ebrReadChecks written-bytes) (ebr-reads m h w header-ok (b .flag) (link-flag (e .sys) (leads (e .«starting_lba») n))) in
+      checked-none (ebrChecks written-bytes) refuses (gives (ebrOf written-bytes)) (all-hold (ebrChecks written-bytes) (f .1)) ∙ ap gives (ebr-back m h w header-ok)
 
   pub write-record : Record (write e l n .bytes)
-  unfolding write
-  write-record = ebr-record (ebrFor e l n) (header-ok .kept) (header-ok .first) (header-ok .second)
+  unfolding write bodyOf
+  write-record = ebr-record (l .kept .mark) (ebrFor e l n) (b .kept .mark) (header-ok .kept) (header-ok .first) (header-ok .second)
 
   -- the record seen
   pub write-seen : viewed (answer (ebrChecks (write e l n .bytes)) (ebrOf (write e l n .bytes))) ≡ image (e .«starting_lba») l n

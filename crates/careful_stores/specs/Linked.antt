@@ -11,6 +11,6 @@ use Rattle.chain.specs.Links.{linkEntry, ebrWith}
 abbrev pub linkBehind : MBRPartitionEntry → Option LogicalPartition → MBRPartitionEntry
 linkBehind e o = linkEntry (e .sys) (leads (e .«starting_lba») o)
 
--- the EBR of l with a link, as a store
+-- the EBR of l with a link and its own mark, as a store
 abbrev pub linkedStore : LogicalPartition → MBRPartitionEntry → Store
-linkedStore l link = record { lba = at l; bytes = ebrBytes (ebrWith l link) }
+linkedStore l link = record { lba = at l; bytes = ebrBytes (l .kept .mark) (ebrWith l link) }

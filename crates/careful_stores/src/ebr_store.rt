@@ -10,15 +10,16 @@ ghost use Rattle.base.specs.Put.{put};
 ghost use Rattle.careful_stores.specs.Stored.{storeBytes, wipe, moved, storeLength};
 ghost use Rattle.careful_stores.specs.Linked.{linkedStore};
 
-// The EBR of a logical partition with a link, as a store from index `at` on.
+// The EBR of a logical partition with a link and its own mark, as a store from index `at` on.
 pub fn put_ebr(out: &mut [u8], at: usize, l: LogicalPartition, link: MBRPartitionEntry)
     requires { ⌜ at + storeLength ≤ length (now out) ⌝ }
     ensures { λ _. ⌜ (now (out .exit) ≡ put (now (out .entry)) at (storeBytes (linkedStore l link))) × (length (storeBytes (linkedStore l link)) ≡ storeLength) ⌝ }
 {
     let h = chain::links::ebr_with(l, link);
     let place = l.absolute_ebr_lba;
+    let mark = l.kept.mark;
     base::put32(out, at, place.0);
-    record_ebr::writer::write_at(out, at + 4, h);
+    record_ebr::writer::write_at(out, at + 4, h, mark);
 }
 
 // 512 zeros, as a store at the start of lent bytes.

@@ -2,6 +2,7 @@
 use base::Answer;
 use record_ebr::EBRHeader;
 use record_ebr::Kept;
+use record_ebr::MARK;
 
 // The start of X.
 pub fn code(x: &[u8]) -> [u8; 446] {
@@ -12,11 +13,22 @@ pub fn code(x: &[u8]) -> [u8; 446] {
     c
 }
 
-// The EBR in the line's words: the partition's entry and the link's. The code is the start of X.
+// The bytes of X behind that.
+fn mark(x: &[u8]) -> [u8; MARK] {
+    let mut m = [0u8; MARK];
+    for i in 0..MARK {
+        m[i] = case_show::lent::byte(x, 446 + i);
+    }
+    m
+}
+
+// The EBR in the line's words: the partition's entry and the link's. The code is the start of X, the mark what is behind it.
 fn given(l: &[u8], x: &[u8]) -> EBRHeader {
     let code = code(x);
+    let mark = mark(x);
     let kept = Kept {
         bootstrap_code: code,
+        mark: mark,
     };
     let one = crate::on_entry::given(l, 1);
     let two = crate::on_entry::given(l, 11);
@@ -29,8 +41,7 @@ fn given(l: &[u8], x: &[u8]) -> EBRHeader {
 
 fn show(e: EBRHeader) {
     let kept = e.kept;
-    let code = kept.bootstrap_code;
-    case_show::say::n64(case_show::lent::checksum(&code));
+    case_show::shown::kept(kept);
     let one = e.partition_1;
     case_show::shown::entry(one);
     let two = e.partition_2;

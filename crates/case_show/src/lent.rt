@@ -5,10 +5,10 @@ ghost use Prim.Native.Nat.{_<_};
 ghost use lib.ListN.{length};
 
 // Zeros, for the case file.
-pub fn text_buffer() -> [u8; 262144]
-    ensures { λ r. ⌜ 262144 ≡ length r ⌝ }
+pub fn text_buffer() -> [u8; 393216]
+    ensures { λ r. ⌜ 393216 ≡ length r ⌝ }
 {
-    [0u8; 262144]
+    [0u8; 393216]
 }
 
 // The lengths of X and of O.

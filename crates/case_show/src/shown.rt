@@ -1,5 +1,6 @@
 // How the case programs write the values of the library: each part after a space.
 use record_chs::CHS;
+use record_ebr::Kept;
 use record_entry::MBRPartitionEntry;
 use record_mbr::MBRHeader;
 use table::LOGICALS;
@@ -68,7 +69,15 @@ fn maybe_chs(c: MaybeChs) {
     }
 }
 
-// The entry, the place of its EBR, link sectors, first and last link CHS, a checksum of the code.
+// A checksum of the code, and one of the mark.
+pub fn kept(k: Kept) {
+    let code = k.bootstrap_code;
+    crate::say::n64(crate::lent::checksum(&code));
+    let mark = k.mark;
+    crate::say::n64(crate::lent::checksum(&mark));
+}
+
+// The entry, the place of its EBR, link sectors, first and last link CHS, what its EBR keeps.
 pub fn logical(l: LogicalPartition) {
     let p = l.partition;
     entry(p);
@@ -80,9 +89,8 @@ pub fn logical(l: LogicalPartition) {
     chs(first);
     let last = l.ebr_last_chs;
     maybe_chs(last);
-    let kept = l.kept;
-    let code = kept.bootstrap_code;
-    crate::say::n64(crate::lent::checksum(&code));
+    let k = l.kept;
+    kept(k);
 }
 
 fn logicals(ls: [LogicalPartition; LOGICALS], n: usize) {

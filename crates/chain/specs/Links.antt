@@ -50,6 +50,6 @@ ebrFor e l n =
       «partition_2» = linkEntry (e .sys) (leads (e .«starting_lba») n);
     }
 
--- it as a store
+-- rules K33 and V18: it as a store, with the mark that the partition carries
 unfoldable pub write : MBRPartitionEntry → LogicalPartition → Option LogicalPartition → Store
-write e l n = record { lba = at l; bytes = ebrBytes (ebrFor e l n) }
+write e l n = record { lba = at l; bytes = ebrBytes (l .kept .mark) (ebrFor e l n) }

@@ -1,20 +1,26 @@
-// The EBR record: code, partition entry, link entry, further bytes, 55 AA; read or written.
+// The EBR record: code, partition entry, link entry, mark, 55 AA; read or written.
 // Scope: Records (EBR); module 2. Rules: B.
-// For callers: `EBRHeader`, `reader::read`, `writer::write`; for our crates `open`, `kept_of`.
+// For callers: `EBRHeader`, `reader::read`, `writer::write`; for our crates `open`, `kept_of`, `kept_at`, `MARK`.
 pub mod reader;
 pub mod writer;
 
 use base::Refusal;
 use record_entry::MBRPartitionEntry;
 ghost use mathlib.Core.Path.{_≡_};
-ghost use Prim.Native.Nat.{_≤_};
+ghost use Prim.Native.Nat.{_+_, _≤_};
 ghost use lib.ListN.{length};
 ghost use Rattle.base.specs.Checks.{answer};
-ghost use Rattle.record_ebr.specs.Ebr.{keptOf, entriesOf, ebrChecks, noKept, noEbr, opened};
+ghost use Rattle.record_ebr.specs.Ebr.{keptAt, keptOf, entriesOf, ebrChecks, noKept, noEbr, opened, markLength};
 
-// What an EBR carries beside its entries.
+// The bytes of a mark, and where it stands in a record.
+pub const MARK: usize = 32;
+
+pub const MARK_AT: usize = 478;
+
+// What an EBR carries beside its entries: the code, and the mark that the platesetter's maker puts there.
 pub struct Kept {
     pub bootstrap_code: [u8; 446],
+    pub mark: [u8; MARK],
 }
 
 // An EBR: the partition's entry and the link's.
@@ -24,7 +30,7 @@ pub struct EBRHeader {
     pub partition_2: MBRPartitionEntry,
 }
 
-// The two entries without the code.
+// The two entries without what is kept.
 pub struct Entries {
     pub partition_1: MBRPartitionEntry,
     pub partition_2: MBRPartitionEntry,
@@ -36,16 +42,27 @@ pub enum Opened {
     Ebr(Entries),
 }
 
-// The code of a record.
+// The code from index `code` on, and the mark from index `mark` on.
+pub fn kept_at(r: &[u8], code: usize, mark: usize) -> Kept
+    requires { ⌜ (code + 446 ≤ length (now r)) × (mark + markLength ≤ length (now r)) ⌝ }
+    ensures { λ k. ⌜ k ≡ keptAt code mark (now (r .entry)) ⌝ }
+{
+    let mut c = [0u8; 446];
+    base::copy_in(&mut c, 0, &r[code..code + 446]);
+    let mut m = [0u8; MARK];
+    base::copy_in(&mut m, 0, &r[mark..mark + MARK]);
+    Kept {
+        bootstrap_code: c,
+        mark: m,
+    }
+}
+
+// The code and the mark of a record.
 pub fn kept_of(r: &[u8]) -> Kept
-    requires { ⌜ 446 ≤ length (now r) ⌝ }
+    requires { ⌜ 512 ≤ length (now r) ⌝ }
     ensures { λ k. ⌜ k ≡ keptOf (now (r .entry)) ⌝ }
 {
-    let mut code = [0u8; 446];
-    base::copy_in(&mut code, 0, &r[0..446]);
-    Kept {
-        bootstrap_code: code,
-    }
+    kept_at(r, 0, MARK_AT)
 }
 
 // The entries of a record of 512 bytes.
@@ -73,12 +90,13 @@ pub fn open(r: &[u8]) -> Opened
 }
 
 impl Kept {
-    // No code: 446 zeros.
+    // No code and no mark: zeros.
     pub fn empty() -> Kept
         ensures { λ k. ⌜ k ≡ noKept ⌝ }
     {
         Kept {
             bootstrap_code: [0u8; 446],
+            mark: [0u8; MARK],
         }
     }
 }

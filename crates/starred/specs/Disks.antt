@@ -9,7 +9,7 @@ use Rattle.base.specs.Said.{Said, gives, refuses, andThen}
 use Rattle.record_chs.specs.Chs.{noChs}
 use Rattle.record_entry.specs.declared.MBRPartitionEntry.{MBRPartitionEntry}
 use Rattle.record_entry.specs.Entry.{entryBytes, noEntry}
-use Rattle.record_ebr.specs.Ebr.{noKept, ebrBytes}
+use Rattle.record_ebr.specs.Ebr.{noMark, noKept, ebrBytes}
 use Rattle.extract.specs.Disk.{Disk}
 use Rattle.table.specs.declared.MBR.{MBR}
 use Rattle.read_table.specs.Read.{read, tableOf}
@@ -37,7 +37,7 @@ unfoldable pub plainDisk : Disk
 plainDisk = diskWith 10000 (entry 0x83 2048 2048) blankAt
 
 unfoldable pub ebrK : List ℕ
-ebrK = ebrBytes (record { kept = noKept; «partition_1» = entry 0x83 2048 2048; «partition_2» = noEntry })
+ebrK = ebrBytes noMark (record { kept = noKept; «partition_1» = entry 0x83 2048 2048; «partition_2» = noEntry })
 
 -- disk K: primary 1 type 05 at 4,096+16,384; one logical, type 83, EBR 4,096, start 6,144, 2,048 sectors
 unfoldable pub K : Disk

@@ -63,9 +63,9 @@ emptyBut k =
 
 -- what an unused slot reads as outside the array
 abbrev pub noLogical : LogicalPartition
-noLogical = emptyBut (record { «bootstrap_code» = [] })
+noLogical = emptyBut (record { «bootstrap_code» = []; mark = [] })
 
--- an unused slot of a table that is made: empty, its code zeros
+-- an unused slot of a table that is made: empty, its code and its mark zeros
 abbrev pub emptySlot : LogicalPartition
 emptySlot = emptyBut noKept
 

@@ -24,7 +24,7 @@ use Rattle.table_address.specs.Address.{slotGeometry, byGeometry}
 unfoldable pub use Rattle.table_push.specs.Asked.{roundChecks, placeChecks, endChecks}
 pub use Rattle.table_push.specs.Asked.{placeOf, sizeOf, laterThan}
 
--- rule P22: the new partition without its addresses; only a later one has link sectors and a last link CHS
+-- rules P22 and P33: the new partition without its addresses; only a later one has link sectors and a last link CHS; no code, no mark
 unfoldable pub fresh : Bool → Request → LogicalPartition
 fresh later q =
     record {

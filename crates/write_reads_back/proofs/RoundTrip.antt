@@ -14,12 +14,13 @@ use Rattle.table.specs.declared.MBR.{MBR}
 use Rattle.read_table.specs.Read.{Table, headerOn, read, readSays, tableOf}
 use Rattle.read_table.proofs.Facts.{read→reads}
 use Rattle.table_remove.specs.Remove.{removedTable}
+use Rattle.sound.specs.Sound.{Contents}
 use Rattle.careful.specs.Demand3.{contentsOn}
 use Rattle.careful.proofs.Demand3.{good-read}
 use Rattle.write_rules.specs.Write.{tableStores, extractOver, writeChecks}
 use Rattle.write_rules.specs.Answers.{writeSays, writeLeaves}
 use Rattle.write_rules.proofs.Ranges.{written-good, written-disk}
-use Rattle.write_reads_back.specs.RoundTrip.{contentsIn, RoundTrip, OldStays, ReadBack}
+use Rattle.write_reads_back.specs.RoundTrip.{contentsIn, cleared, RoundTrip, OldStays, ReadBack}
 use Rattle.write_reads_back.proofs.Shown.{disk-returns}
 use Rattle.write_reads_back.proofs.Accepts.{write-accepts}
 use Rattle.write_reads_back.proofs.Read.{read-returning, read-placed}
@@ -82,5 +83,5 @@ pub read-back : (x y out : List ℕ) → ReadBack x y out
 read-back x y out = record {
   back = λ u q b s f c width size n e.
       let g = good-read x b u q in
-      round-trip (tableOf u) y out .returns (read-returning x (g .0) u (g .1) s f) c (width ∙ read-width u) (size ∙ read-size u) n e ∙ ap gives (read-placed x (g .0) u (g .1));
+      round-trip (tableOf u) y out .returns (read-returning x (g .0) u (g .1) s f) c (width ∙ read-width u) (size ∙ read-size u) n e ∙ ap (λ (t : Contents). gives (cleared t)) (read-placed x (g .0) u (g .1));
 }

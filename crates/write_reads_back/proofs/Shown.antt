@@ -1,11 +1,11 @@
--- The disk with a returning table's records stored reads as that table under the first-place rule. Assumes nothing.
+-- The disk with a returning table's records stored reads as that table under the first-place rule, its marks cleared. Assumes nothing.
 use mathlib.Core.Path.{_≡_, refl, sym, ap, subst, _∙_}
 use mathlib.Core.Option.{Option, none, some, Option·getD}
-use mathlib.Core.List.{List, [], _∷_}
+use mathlib.Core.List.{List, [], _∷_, map}
 use Prim.Native.Nat.{ℕ, zero, suc, _^_, _≤_, _<_}
 use native.Mathlib.Nat.{add-zero}
 use native.Mathlib.Omega.{arith}
-use lib.ListN.{length, take}
+use lib.ListN.{length, take, length-map}
 use borrow.Author.Tests.{ltb-true, leb-true}
 use Rattle.base.specs.Bytes.{Bytes}
 use Rattle.base.specs.Said.{gives}
@@ -25,10 +25,11 @@ use Rattle.extract.proofs.Good.{word-below}
 use Rattle.table.specs.declared.LogicalPartition.{LogicalPartition}
 use Rattle.table.specs.declared.MBR.{MBR}
 use Rattle.table.specs.Table.{most, logicals, parts, extendedIn}
-use Rattle.chain.specs.Facts.{seen, bodyOf, Held, Holds}
+use Rattle.chain.specs.Facts.{seen, linkIn, bodyOf, Held, Holds}
 use Rattle.read_table.proofs.Facts.{facts→header}
 use Rattle.table_push.specs.Push.{geometryOf}
-use Rattle.chain.specs.Links.{ebrFor, write}
+use Rattle.chain.specs.Links.{ebrFor}
+use Rattle.write_rules.specs.Records.{writePlain}
 use Rattle.write_rules.specs.AsWritten.{atStart, firstAtStart, allGeometry, asWritten, logicalsChecks, allRows}
 use Rattle.write_rules.specs.Write.{headerStore, ebrStores, chainStores, chainChecks, tableStores, writeChecks}
 use Rattle.write_rules.specs.Answers.{writeSays}
@@ -43,8 +44,8 @@ use Rattle.careful.proofs.Aligned.{aligned}
 use Rattle.careful.proofs.Shown.{Shows, shows→contents, plain-of}
 use Rattle.careful.proofs.Push.{Writable}
 use Rattle.careful.proofs.Remove.{first-stays, moved-heads, moved-good, moved-writable}
-use Rattle.write_reads_back.specs.RoundTrip.{Filled, Returning}
-use Rattle.write_reads_back.proofs.Rows.{Storing, off-after, row-stored, storing}
+use Rattle.write_reads_back.specs.RoundTrip.{Filled, Returning, unmarked, cleared}
+use Rattle.write_reads_back.proofs.Rows.{Storing, off-after, row-unmarked, row-stored, storing}
 use Rattle.write_reads_back.proofs.Parts.{header-ok, header-holds, writables, linkables, by-none, primaries-aligned}
 
 -- at most so many are taken
@@ -55,7 +56,7 @@ take-few (suc k) (l ∷ ls) = omega (arith, take-few k ls)
 
 -- the EBR of the first says no more of the way to it than the rule keeps
 same-stores : (e : MBRPartitionEntry) (l : LogicalPartition) (ls : List LogicalPartition) → ebrStores e (atStart (e .«starting_lba») l ∷ ls) ≡ ebrStores e (moved e l ∷ ls)
-unfolding ebrStores write ebrFor bodyOf atStart moved
+unfolding ebrStores writePlain ebrFor bodyOf atStart moved
 same-stores e l ls = refl
 
 module _ (t : MBR) (x : List ℕ) (room n : ℕ) (r : Returning t) (b : Bytes x) (width : sectorSize x ≡ t .«sector_size») (size : diskSectors x ≡ t .«disk_size»)
@@ -132,41 +133,43 @@ module _ (t : MBR) (x : List ℕ) (room n : ℕ) (r : Returning t) (b : Bytes x)
         storing X (endOf e) (t .«disk_size») (area .ends) small (moved e l) ls (omega (arith, moved-heads e l ls .0)) goods (moved-writable e l (w .0), w .1)
         (linkables (diskSectors x) (atStart X l) ls (chs .1) (typed .1) rows)
 
-    held : Row (Held (seen (after d₀ (ebrStores e ms))) X) ms none
+    held : Row (Held (seen (after d₀ (ebrStores e ms))) X) (map unmarked ms) none
     held =
         row-stored e (endOf e) (t .«disk_size») ms d₀ (extended-small (e .sys) (area .ext)) (size-stored (diskOf x) (headerStore (t .header)) ∙ size-of x ∙ size) fits stores
 
     zeroth : after d₀ (ebrStores e ms) .sector 0 ≡ d₀ .sector 0
     zeroth = off-after e ms d₀ 0 (off-over (endOf e) 0 (moved e l) ls none fits (omega (arith, moved-heads e l ls .0, area .start)))
 
-    holds : Holds (seen (after d₀ (ebrStores e ms))) (some e) ms
+    holds : Holds (seen (after d₀ (ebrStores e ms))) (some e) (map unmarked ms)
+    unfolding unmarked linkIn
     holds = record {
       begins = (moved-heads e l ls .0 ∙ sym (add-zero X), moved-heads e l ls .1);
       held = held;
-      plain = plain-of X (endOf e) (moved e l) ls (moved-heads e l ls .0) (omega (arith, area .ends, small)) fits;
-      few = subst (λ (k : List LogicalPartition). length k ≤ most) p few;
+      plain = row-unmarked X ms (plain-of X (endOf e) (moved e l) ls (moved-heads e l ls .0) (omega (arith, area .ends, small)) fits);
+      few = omega (arith, length-map ms unmarked, subst (λ (k : List LogicalPartition). length k ≤ most) p few);
     }
 
     ebrs : chainStores (geometryOf t) (some e) (l ∷ ls) ≡ ebrStores e ms
     unfolding asWritten firstAtStart
     ebrs = ap (ebrStores e) (by-none (geometryOf t) (r .no-geometry) (atStart X l ∷ ls)) ∙ same-stores e l ls
 
-    chained : contentsOn (after d₀ (chainStores (geometryOf t) (some e) (l ∷ ls))) ≡ gives (relist c ms)
+    chained : contentsOn (after d₀ (chainStores (geometryOf t) (some e) (l ∷ ls))) ≡ gives (relist c (map unmarked ms))
     unfolding relist
     chained =
         ap (λ (ss : List Store). contentsOn (after d₀ ss)) ebrs
-        ∙ shows→contents (after d₀ (ebrStores e ms)) (relist c ms) (shown (ebrStores e ms) ms zeroth (rw q holds)) (aligned e (primariesOf c) (parts ms) q (area .start))
+        ∙ shows→contents (after d₀ (ebrStores e ms)) (relist c (map unmarked ms)) (shown (ebrStores e ms) (map unmarked ms) zeroth (rw q holds))
+        (aligned e (primariesOf c) (parts (map unmarked ms)) q (area .start))
 
   -- by cases of the extended entry and the list
   by-cases : (o : Option MBRPartitionEntry) → extendedIn t ≡ o → (ls : List LogicalPartition) → logicals t ≡ ls → Filled o ls → Owned o ls
       → AllHold (chainChecks (geometryOf t) o (diskSectors x) ls)
-      → contentsOn (after d₀ (chainStores (geometryOf t) o ls)) ≡ gives (relist c (firstInPlace (Option·getD o noEntry) ls))
+      → contentsOn (after d₀ (chainStores (geometryOf t) o ls)) ≡ gives (relist c (map unmarked (firstInPlace (Option·getD o noEntry) ls)))
   unfolding firstInPlace relist after
   by-cases none q [] p f w h = shows→contents d₀ (relist c []) (shown [] [] refl (rw q tt)) (primaries-aligned (primariesOf c) (r .sound .starts))
   by-cases none q (l ∷ ls) p f w h = absurd w
   by-cases (some e) q [] p f w h = absurd f
   by-cases (some e) q (l ∷ ls) p f w h = chained e q l ls p h
 
-  pub disk-returns : contentsOn (after (diskOf x) (tableStores t)) ≡ gives (inFirstPlace c)
-  unfolding tableStores inFirstPlace after
+  pub disk-returns : contentsOn (after (diskOf x) (tableStores t)) ≡ gives (cleared (inFirstPlace c))
+  unfolding tableStores inFirstPlace cleared relist after
   disk-returns = by-cases (extendedIn t) refl (logicals t) refl (r .filled) (r .sound .owned) (chain-held t x room n says)

@@ -1,4 +1,5 @@
 // One record of an extract to be written, put at an index. Internal.
+use record_ebr::MARK;
 use record_entry::MBRPartitionEntry;
 use table::LogicalPartition;
 use write_rules::sources::MBR_SOURCE;
@@ -7,7 +8,7 @@ ghost use Prim.Native.Nat.{_+_, _≤_};
 ghost use lib.ListN.{length};
 ghost use Rattle.base.specs.Put.{put};
 ghost use Rattle.chain.specs.Links.{ebrWith};
-ghost use Rattle.record_ebr.specs.Ebr.{ebrBytes};
+ghost use Rattle.record_ebr.specs.Ebr.{noMark, ebrBytes};
 ghost use Rattle.write_rules.specs.Sources.{keptFrom, Valid, Writing};
 
 // An old record, or record 0, from index `at` on.
@@ -23,11 +24,12 @@ pub fn put_kept(out: &mut [u8], at: usize, x: &[u8], n: usize, first: &[u8], sou
     base::copy_in(out, at, first);
 }
 
-// The EBR of a logical partition with a link entry, from index `at` on.
+// The EBR of a logical partition with a link entry and zeros for its mark, from index `at` on.
 pub fn put_ebr(out: &mut [u8], at: usize, l: LogicalPartition, link: MBRPartitionEntry)
     requires { ⌜ at + 512 ≤ length (now out) ⌝ }
-    ensures { λ _. ⌜ now (out .exit) ≡ put (now (out .entry)) at (ebrBytes (ebrWith l link)) ⌝ }
+    ensures { λ _. ⌜ now (out .exit) ≡ put (now (out .entry)) at (ebrBytes noMark (ebrWith l link)) ⌝ }
 {
     let h = chain::links::ebr_with(l, link);
-    record_ebr::writer::write_at(out, at, h);
+    let zeros = [0u8; MARK];
+    record_ebr::writer::write_at(out, at, h, zeros);
 }

@@ -6,21 +6,20 @@ use mathlib.Core.Option.{Option, none, some}
 use Prim.Native.Nat.{ℕ, _*_, _<_}
 use native.Mathlib.Omega.{arith}
 use lib.Dec.{eqb}
-use lib.ListN.{replicate}
 use borrow.Author.Tests.{ltb-true, eqb-false, not-true}
 use Rattle.base.specs.Pick.{pick}
 use Rattle.base.specs.Bytes.{Bytes, Record, signature}
 use Rattle.base.specs.Row.{next}
 use Rattle.base.specs.Said.{gives}
 use Rattle.base.specs.Checks.{AllHold}
-use Rattle.base.proofs.Bytes.{bytes-append, bytes-zeros}
+use Rattle.base.proofs.Bytes.{bytes-append}
 use Rattle.base.proofs.Checks.{hold-left, hold-right}
 use Rattle.base.specs.All.{All}
 use Rattle.write_rules.specs.Ranges.{InByte, HeaderIn, ChsIn, LogicalIn, TableIn}
-use Rattle.record_ebr.proofs.Laws.{ebr-long}
+use Rattle.record_ebr.proofs.Laws.{ebr-long, no-mark-ok}
 use Rattle.record_entry.specs.declared.MBRPartitionEntry.{MBRPartitionEntry}
 use Rattle.record_entry.specs.Entry.{entryBytes}
-use Rattle.record_ebr.specs.Ebr.{ebrBytes}
+use Rattle.record_ebr.specs.Ebr.{noMark, ebrBytes}
 use Rattle.record_mbr.specs.declared.MBRHeader.{MBRHeader}
 use Rattle.record_mbr.specs.Mbr.{mbrBytes}
 use Rattle.record_mbr.proofs.Laws.{extended-has, long-there, mbr-bytes}
@@ -38,10 +37,10 @@ use Rattle.table_address.specs.declared.Geometry.{Geometry}
 use Rattle.table_address.specs.Address.{complete, addressIn, updateChecks, linkAddress, addressed}
 use Rattle.table_push.specs.Push.{geometryOf}
 use Rattle.chain.specs.Facts.{at, bodyOf, linkIn, leads}
-use Rattle.chain.specs.Links.{linkEntry, ebrFor, write, chsOrNo}
+use Rattle.chain.specs.Links.{linkEntry, ebrFor, chsOrNo}
 use Rattle.write_rules.specs.AsWritten.{atStart, firstAtStart, byGeometry, allGeometry, asWritten, logicalsChecks, nextLinked, rowChecks, allRows}
 use Rattle.write_rules.specs.Write.{headerStore, chainStores, chainChecks, tableStores}
-use Rattle.write_rules.specs.Records.{ebrStores, extractOver}
+use Rattle.write_rules.specs.Records.{writePlain, ebrStores, extractOver}
 use Rattle.write_rules.specs.Answers.{writeSays}
 use Rattle.write_rules.proofs.Over.{Storable, disk-held, chain-held, table-good, table-disk}
 
@@ -70,8 +69,8 @@ unfolding linkEntry linkIn
 link-in sys X none s k = record { boot = omega arith; first = omega arith; sys = omega arith; last = omega arith }
 link-in sys X (some m) s k = record { boot = omega arith; first = k .first; sys = s; last = last-in (m .«ebr_last_chs») (k .last) }
 
-ebr-whole : (e : MBRPartitionEntry) (l : LogicalPartition) (n : Option LogicalPartition) → e .sys < 256 → LogicalIn l → NextIn n → Record (write e l n .bytes)
-unfolding write ebrFor bodyOf ebrBytes
+ebr-whole : (e : MBRPartitionEntry) (l : LogicalPartition) (n : Option LogicalPartition) → e .sys < 256 → LogicalIn l → NextIn n → Record (writePlain e l n .bytes)
+unfolding writePlain ebrFor bodyOf ebrBytes
 ebr-whole e l n s k j =
     let c = l .kept .«bootstrap_code» in
     let h = ebrFor e l n in
@@ -79,12 +78,12 @@ ebr-whole e l n s k j =
     let q = h .«partition_2» in
     let ip : InByte p = record { boot = k .part .boot; first = k .part .first; sys = k .part .sys; last = k .part .last } in
     record {
-      long = ebr-long h (k .kept .long);
+      long = ebr-long noMark h (no-mark-ok .long) (k .kept .long);
       bytes =
-          bytes-append (c ++ entryBytes p ++ entryBytes q ++ replicate 32 0) signature
-          (bytes-append (c ++ entryBytes p ++ entryBytes q) (replicate 32 0)
+          bytes-append (c ++ entryBytes p ++ entryBytes q ++ noMark) signature
+          (bytes-append (c ++ entryBytes p ++ entryBytes q) noMark
           (bytes-append (c ++ entryBytes p) (entryBytes q) (bytes-append c (entryBytes p) (k .kept .bytes) (entry-in p ip)) (entry-in q (link-in (e .sys) (e .«starting_lba») n s j)))
-          (bytes-zeros 32))
+          (no-mark-ok .bytes))
           (omega arith);
     }
 
@@ -98,7 +97,7 @@ rows-inside d (l ∷ ls) h =
 
 -- the stores of logical partitions whose numbers fit, each on the disk
 pub ebrs-storable : (d : ℕ) (e : MBRPartitionEntry) (ls : List LogicalPartition) → e .sys < 256 → All LogicalIn ls → AllHold (allRows d ls) → All (Storable d) (ebrStores e ls)
-unfolding ebrStores write
+unfolding ebrStores writePlain
 ebrs-storable d e ls s k h = go ls k (rows-inside d ls h)
   where
     following : (ls : List LogicalPartition) → All LogicalIn ls → NextIn (next ls none)

@@ -20,6 +20,7 @@ pub fn logical(ebr: u32, start: u32, sectors: u32, link: Option<u32>) -> Logical
         ebr_first_chs: CHS::empty(),
         ebr_last_chs: link.map(|_| CHS::empty()),
         bootstrap_code: [0; 446],
+        mark: [0; 32],
     }
 }
 

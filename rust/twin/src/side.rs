@@ -1,8 +1,8 @@
-//! The text of calls, for either crate.
+//! The text of calls, for either crate; in braces what a logical partition has beside mbrman's fields.
 
 #[macro_export]
 macro_rules! side {
-    ($module:ident, $krate:ident, $number:expr) => {
+    ($module:ident, $krate:ident, $number:expr, { $($more:tt)* }) => {
         mod $module {
             use std::fmt::Debug;
             use std::panic::{catch_unwind, AssertUnwindSafe};
@@ -51,6 +51,7 @@ macro_rules! side {
                     ebr_first_chs: chs(r),
                     ebr_last_chs: linked.then(|| chs(r)),
                     bootstrap_code,
+                    $($more)*
                 }
             }
 

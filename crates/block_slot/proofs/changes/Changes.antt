@@ -104,7 +104,7 @@ module _ (b : List ℕ) (l : LogicalPartition) (g : Passed b) (f : SlotFits l) (
   pub slot-kept : Clean b → Clean (withSlot b n l)
   unfolding withSlot slotPut
   slot-kept z =
-      let w : length (slotPart l) ≡ slotLength = length-slot l (f .code) in
+      let w : length (slotPart l) ≡ slotLength = length-slot l (f .kept) in
       clean-over (withCount b (n + 1)) (slotPart l) (tagOf l ∷ []) n 1 counted-good w refl (omega arith) (count-clean b (n + 1) g (omega arith) z)
       (λ j u.
       let e : j ≡ 0 = omega arith in

@@ -12,7 +12,7 @@ use Rattle.table.specs.declared.MaybeSectors.the-variants.{Absent, Present}
 use Rattle.table.specs.declared.MaybeChs.{MaybeChs}
 use Rattle.table.specs.declared.MaybeChs.the-variants.{Absent as NoChs, Present as SomeChs}
 use Rattle.table.specs.declared.LogicalPartition.{LogicalPartition}
-use Rattle.block.specs.Block.{chsPart, entryPart, sectorsPart, sectorsTag, lastPart, lastTag, tagOf, slotPart}
+use Rattle.block.specs.Block.{chsPart, entryPart, sectorsPart, sectorsTag, lastPart, lastTag, tagOf, keptPart, slotPart}
 use Rattle.block.specs.Clean.{SlotClean}
 
 module _ (e : MBRPartitionEntry) (a : ℕ) (f : CHS) (q : List ℕ) where
@@ -34,6 +34,6 @@ pub slot-clean : (l : LogicalPartition) → SlotClean (tagOf l) (slotPart l)
 unfolding slotPart
 slot-clean l =
     record {
-      sectors = sectors-zero (l .partition) (l .«absolute_ebr_lba» .0) (l .«ebr_first_chs») (l .kept .«bootstrap_code») (l .«ebr_sectors») (l .«ebr_last_chs»);
-      last = last-zero (l .partition) (l .«absolute_ebr_lba» .0) (l .«ebr_first_chs») (l .kept .«bootstrap_code») (l .«ebr_sectors») (l .«ebr_last_chs»);
+      sectors = sectors-zero (l .partition) (l .«absolute_ebr_lba» .0) (l .«ebr_first_chs») (keptPart (l .kept)) (l .«ebr_sectors») (l .«ebr_last_chs»);
+      last = last-zero (l .partition) (l .«absolute_ebr_lba» .0) (l .«ebr_first_chs») (keptPart (l .kept)) (l .«ebr_sectors») (l .«ebr_last_chs»);
     }

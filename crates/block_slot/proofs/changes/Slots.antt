@@ -139,9 +139,9 @@ pub slots-part : (ls : List LogicalPartition) (j : ℕ) → SlotsFit ls → j < 
     → (part (slotsPart ls) (slotLength * j) slotLength ≡ slotPart (getD ls j noLogical)) × SlotFits (getD ls j noLogical)
 unfolding slotsPart
 slots-part [] j k h = absurd (omega arith)
-slots-part (l ∷ ls) zero k h = (part-at (slotPart l ++ slotsPart ls) [] (slotPart l) (slotsPart ls) (slotLength * 0) slotLength refl refl (length-slot l (k .0 .code)), k .0)
+slots-part (l ∷ ls) zero k h = (part-at (slotPart l ++ slotsPart ls) [] (slotPart l) (slotsPart ls) (slotLength * 0) slotLength refl refl (length-slot l (k .0 .kept)), k .0)
 slots-part (l ∷ ls) (suc j) k h =
-    let n : length (slotPart l) ≡ slotLength = length-slot l (k .0 .code) in
+    let n : length (slotPart l) ≡ slotLength = length-slot l (k .0 .kept) in
     let r = slots-part ls j (k .1) (omega arith) in
     let s : length (slotsPart ls) ≡ slotLength * length ls = length-slots ls (k .1) in
     let e : part (slotPart l ++ slotsPart ls) (slotLength * suc j) slotLength ≡ part (slotsPart ls) (slotLength * j) slotLength =

@@ -1,6 +1,6 @@
 -- The parts of a slot, written one behind the other. Assumes nothing.
-use mathlib.Core.Path.{_≡_, refl, _∙_}
-use mathlib.Core.List.{List, [], _∷_, _++_}
+use mathlib.Core.Path.{_≡_, refl, ap, _∙_}
+use mathlib.Core.List.{List, [], _∷_, _++_, append-assoc}
 use Prim.Native.Nat.{ℕ, _+_, _≤_}
 use native.Mathlib.Omega.{arith}
 use lib.ListN.{length, length-append}
@@ -10,7 +10,8 @@ use Rattle.base.proofs.Put.{behind}
 use Rattle.record_chs.specs.declared.CHS.{CHS}
 use Rattle.record_entry.specs.declared.MBRPartitionEntry.{MBRPartitionEntry}
 use Rattle.table.specs.declared.LogicalPartition.{LogicalPartition}
-use Rattle.block.specs.Block.{chsPart, entryPart, sectorsPart, lastPart, slotFront, slotPart, entryLength, slotLength}
+use Rattle.block.specs.Block.{chsPart, entryPart, sectorsPart, lastPart, slotFront, slotPart, entryLength, slotCode, slotMark, slotLength}
+use Rattle.block.specs.Fits.{KeptLong}
 use Rattle.block.proofs.Laws.{length-sectors, length-front, length-slot}
 
 pub chs-written : (d d₁ d₂ d₃ : List ℕ) (at : ℕ) (c : CHS) → at + 4 ≤ length d
@@ -54,8 +55,13 @@ front-written d d₁ d₂ d₃ d₄ d₅ at l h e₁ e₂ e₃ e₄ e₅ =
     let f₄ : d₄ ≡ put d at x₄ = behind d d₃ d₄ at 26 x₃ _ n₃ (omega arith) f₃ e₄ in
     behind d d₄ d₅ at 30 x₄ _ n₄ (omega arith) f₄ e₅
 
-pub slot-written : (d d₁ d₂ : List ℕ) (at : ℕ) (l : LogicalPartition) → length (l .kept .«bootstrap_code») ≡ 446 → at + slotLength ≤ length d
-    → d₁ ≡ put d at (slotFront l) → d₂ ≡ put d₁ (at + 34) (l .kept .«bootstrap_code») → (d₂ ≡ put d at (slotPart l)) × (length (slotPart l) ≡ slotLength)
+pub slot-written : (d d₁ d₂ d₃ : List ℕ) (at : ℕ) (l : LogicalPartition) → KeptLong (l .kept) → at + slotLength ≤ length d
+    → d₁ ≡ put d at (slotFront l) → d₂ ≡ put d₁ (at + slotCode) (l .kept .«bootstrap_code») → d₃ ≡ put d₂ (at + slotMark) (l .kept .mark)
+    → (d₃ ≡ put d at (slotPart l)) × (length (slotPart l) ≡ slotLength)
 unfolding slotPart
-slot-written d d₁ d₂ at l n h e₁ e₂ =
-    (behind d d₁ d₂ at 34 (slotFront l) _ (length-front l) (omega arith) e₁ e₂, length-slot l n)
+slot-written d d₁ d₂ d₃ at l n h e₁ e₂ e₃ =
+    let f : List ℕ = slotFront l in
+    let c : List ℕ = l .kept .«bootstrap_code» in
+    let w : length (f ++ c) ≡ slotMark = length-append f c ∙ rw (length-front l, n .code) in
+    let f₂ : d₂ ≡ put d at (f ++ c) = behind d d₁ d₂ at slotCode f c (length-front l) (omega arith) e₁ e₂ in
+    (behind d d₂ d₃ at slotMark (f ++ c) (l .kept .mark) w (omega arith) f₂ e₃ ∙ ap (put d at) (append-assoc f c (l .kept .mark)), length-slot l n)

@@ -13,7 +13,7 @@ use Rattle.record_ebr.proofs.Laws.{ebr-long}
 use Rattle.record_entry.specs.declared.MBRPartitionEntry.{MBRPartitionEntry}
 use Rattle.record_entry.specs.Entry.{noEntry}
 use Rattle.record_ebr.specs.declared.EBRHeader.{EBRHeader}
-use Rattle.record_ebr.specs.Ebr.{ebrBytes}
+use Rattle.record_ebr.specs.Ebr.{markLength, ebrBytes}
 use Rattle.extract.specs.Disk.{Store}
 use Rattle.table.specs.declared.LogicalPartition.{LogicalPartition}
 use Rattle.chain.specs.Facts.{at, bodyOf}
@@ -34,10 +34,11 @@ store-written d d₁ d₂ i s n h e f =
 
 -- the EBR of a logical partition is written
 pub ebr-written : (d d₁ d₂ : List ℕ) (i : ℕ) (l : LogicalPartition) (h : EBRHeader) (link : MBRPartitionEntry) → h ≡ ebrWith l link
-    → length (l .kept .«bootstrap_code») ≡ 446 → i + storeLength ≤ length d → d₁ ≡ put d i (bytesOf little 4 (at l)) → d₂ ≡ put d₁ (i + 4) (ebrBytes h)
+    → length (l .kept .mark) ≡ markLength → length (l .kept .«bootstrap_code») ≡ 446 → i + storeLength ≤ length d → d₁ ≡ put d i (bytesOf little 4 (at l))
+    → d₂ ≡ put d₁ (i + 4) (ebrBytes (l .kept .mark) h)
     → (d₂ ≡ put d i (storeBytes (linkedStore l link))) × (length (storeBytes (linkedStore l link)) ≡ storeLength)
-ebr-written d d₁ d₂ i l h link o n k e f =
-    store-written d d₁ d₂ i (linkedStore l link) (ebr-long (ebrWith l link) n) k e (f ∙ ap (λ (x : EBRHeader). put d₁ (i + 4) (ebrBytes x)) o)
+ebr-written d d₁ d₂ i l h link o w n k e f =
+    store-written d d₁ d₂ i (linkedStore l link) (ebr-long (l .kept .mark) (ebrWith l link) w n) k e (f ∙ ap (λ (x : EBRHeader). put d₁ (i + 4) (ebrBytes (l .kept .mark) x)) o)
 
 -- links
 pub link-none : (e : MBRPartitionEntry) → linkBehind e none ≡ noEntry

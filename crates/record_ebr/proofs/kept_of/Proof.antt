@@ -1,40 +1,12 @@
-use Rattle.record_ebr.specs.Ebr.{keptOf}
-use Rattle.base.proofs.Put.{put-front}
-use mathlib.Core.Path.{_≡_}
-use lib.ListN.{take}
 use borrow.Author.Needs.{needs}
 use Rattle.record_ebr.proofs.kept_of.Statement.{statement}
 use Rattle.record_ebr.proofs.kept_of.Tie as tie
 
-slice-aggregate-copy-in : tie.Need-slice-aggregate-copy-in
-slice-aggregate-copy-in c = search needs
-
-sub-copy-in : tie.Need-sub-copy-in
-sub-copy-in c = search needs
-
-part-copy-in-start : tie.Need-part-copy-in-start
-part-copy-in-start c = search needs
-
-part-copy-in-end : tie.Need-part-copy-in-end
-part-copy-in-end c = search needs
-
-copy-in-requires : tie.Need-copy-in-requires
-copy-in-requires c κs = search needs
+kept-at-requires : tie.Need-kept-at-requires
+kept-at-requires c κs = search needs
 
 returns : tie.Need-returns
-unfolding keptOf
-returns c =
-    let a = c .before .before .before .before .before .args in
-    let e : _ ≡ take 446 (a .r .now) = put-front _ _ (a .r .now) 446 (search needs) (search needs) (c .before .copy-in .ensures) in
-    rw e
+returns c = c .kept-at .ensures
 
 pub kept-of-spec : {M : Type 1} → statement M
-kept-of-spec =
-    tie.close
-    (tie.spec
-    slice-aggregate-copy-in
-    sub-copy-in
-    part-copy-in-start
-    part-copy-in-end
-    copy-in-requires
-    returns)
+kept-of-spec = tie.close (tie.spec kept-at-requires returns)

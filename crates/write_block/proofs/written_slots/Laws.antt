@@ -150,7 +150,7 @@ module _ (d b : List ℕ) (x i : ℕ) (h : Passed d) (k : i < tableIn d .count) 
   turn-put l c p f q =
       let w : take i ls ++ (l ∷ []) ≡ take (i + 1) ls = ap (λ (m : LogicalPartition). take i ls ++ (m ∷ [])) p ∙ sym more in
       let t : slotPut (slotsPut d (take i ls)) (length (take i ls)) l ≡ slotsPut d (take i ls ++ (l ∷ [])) =
-      slots-turn d (take i ls) l (h .long) (omega (arith, first, h .few, k)) (omega (arith, wide, first)) (length-slot l (f .code)) in (
+      slots-turn d (take i ls) l (h .long) (omega (arith, first, h .few, k)) (omega (arith, wide, first)) (length-slot l (f .kept)) in (
         q ∙ ap (λ (z : List ℕ). slotPut z i l) e ∙ ap (λ (n : ℕ). slotPut (slotsPut d (take i ls)) n l) (sym first) ∙ t ∙ ap (slotsPut d) w,
         subst SlotsFit w (fits-snoc (take i ls) l s f),
       )

@@ -18,7 +18,7 @@ use Rattle.base.specs.Row.{next}
 use Rattle.base.specs.All.{All}
 use Rattle.record_ebr.proofs.Laws.{ebr-long}
 use Rattle.record_entry.specs.declared.MBRPartitionEntry.{MBRPartitionEntry}
-use Rattle.record_ebr.specs.Ebr.{ebrBytes, keptOf}
+use Rattle.record_ebr.specs.Ebr.{noMark, ebrBytes, keptAt}
 use Rattle.record_ebr.specs.declared.Kept.{Kept}
 use Rattle.record_entry.specs.Entry.{noEntry}
 use Rattle.extract.specs.Disk.{Store}
@@ -38,8 +38,8 @@ use Rattle.block.proofs.Inside.{slot-in}
 use Rattle.write_rules.specs.AsWritten.{asWrittenIn}
 use Rattle.write_rules.proofs.as_written.Laws.{settled-long, held-long, held-kept}
 use Rattle.chain.specs.Facts.{at, bodyOf, leads}
-use Rattle.chain.specs.Links.{linkEntry, ebrFor, ebrWith, write}
-use Rattle.write_rules.specs.Records.{ebrStores, laidAll, extractOver}
+use Rattle.chain.specs.Links.{linkEntry, ebrFor, ebrWith}
+use Rattle.write_rules.specs.Records.{writePlain, ebrStores, laidAll, extractOver}
 use Rattle.write_rules.specs.Sources.{storeAt, bytesFrom, ebrSlots, storesOf, slotsOf, CodeLong, Valid, Writing, mbrSource, ebrSource}
 
 -- slots laid over, and their records
@@ -62,9 +62,9 @@ slots-end k i ls ts e = rw (e, drop-length ls)
 
 -- the EBR with the link to what follows
 pub ebr-written : (e : MBRPartitionEntry) (l : LogicalPartition) (n : Option LogicalPartition) (k : MBRPartitionEntry) → k ≡ linkEntry (e .sys) (leads (e .«starting_lba») n)
-    → ebrBytes (ebrWith l k) ≡ write e l n .bytes
-unfolding write ebrFor bodyOf
-ebr-written e l n k p = ap (λ (j : MBRPartitionEntry). ebrBytes (ebrWith l j)) p
+    → ebrBytes noMark (ebrWith l k) ≡ writePlain e l n .bytes
+unfolding writePlain ebrFor bodyOf
+ebr-written e l n k p = ap (λ (j : MBRPartitionEntry). ebrBytes noMark (ebrWith l j)) p
 
 abbrev pub Long : Store → Type 0
 Long s = length (s .bytes) ≡ 512
@@ -90,28 +90,28 @@ records-long x g i zero h = tt
 records-long x g i (suc k) h = (record-at x g i (omega arith) .long, records-long x g (i + 1) k (omega arith))
 
 stores-long : (e : MBRPartitionEntry) (ls : List LogicalPartition) → All CodeLong ls → All Long (ebrStores e ls)
-unfolding ebrStores write ebrFor bodyOf
+unfolding ebrStores writePlain ebrFor bodyOf
 stores-long e [] h = tt
-stores-long e (l ∷ ls) h = (ebr-long (ebrFor e l (next ls none)) (h .0), stores-long e ls (h .1))
+stores-long e (l ∷ ls) h = (ebr-long noMark (ebrFor e l (next ls none)) refl (h .0), stores-long e ls (h .1))
 
 -- the store of a number
 pub store-at : (e : MBRPartitionEntry) (ls : List LogicalPartition) (i : ℕ) → i < length ls
-    → storeAt (ebrStores e ls) i ≡ write e (getD ls i noLogical) (next (drop (i + 1) ls) none) .bytes
+    → storeAt (ebrStores e ls) i ≡ writePlain e (getD ls i noLogical) (next (drop (i + 1) ls) none) .bytes
 unfolding storeAt ebrStores
 store-at e [] i h = absurd (omega arith)
 store-at e (l ∷ ls) zero h = refl
 store-at e (l ∷ ls) (suc i) h =
     let z : suc i + 1 ≡ suc (i + 1) = omega arith in
-    store-at e ls i (omega arith) ∙ ap (λ k. write e (getD ls i noLogical) (next (drop k (l ∷ ls)) none) .bytes) (sym z)
+    store-at e ls i (omega arith) ∙ ap (λ k. writePlain e (getD ls i noLogical) (next (drop k (l ∷ ls)) none) .bytes) (sym z)
 
 places-map : (f : ℕ → List ℕ) (e : MBRPartitionEntry) (k : ℕ) (ls : List LogicalPartition) → ((i : ℕ) → i < length ls → f (k + i) ≡ storeAt (ebrStores e ls) i)
     → map (storeOf f) (ebrSlots k ls) ≡ ebrStores e ls
-unfolding ebrSlots ebrStores storeAt write
+unfolding ebrSlots ebrStores storeAt writePlain
 places-map f e k [] h = refl
 places-map f e k (l ∷ ls) h =
-    let z : f k ≡ ebrBytes (ebrFor e l (next ls none)) = ap f (sym (add-zero k)) ∙ h 0 (omega arith) in
+    let z : f k ≡ ebrBytes noMark (ebrFor e l (next ls none)) = ap f (sym (add-zero k)) ∙ h 0 (omega arith) in
     ap (λ r. record { lba = at l; bytes = r } ∷ map (storeOf f) (ebrSlots (k + 1) ls)) z
-    ∙ ap (_∷_ (write e l (next ls none))) (places-map f e (k + 1) ls (λ i p. ap f (shift k i) ∙ h (suc i) (omega arith)))
+    ∙ ap (_∷_ (writePlain e l (next ls none))) (places-map f e (k + 1) ls (λ i p. ap f (shift k i) ∙ h (suc i) (omega arith)))
   where
     shift : (k i : ℕ) → k + 1 + i ≡ k + suc i
     shift k i = omega arith
@@ -201,7 +201,7 @@ each-by [] f = tt
 each-by (a ∷ l) f = (f 0 (omega arith), each-by l (λ i h. f (suc i) (omega arith)))
 
 slot-code : (b : List ℕ) (i : ℕ) → length b ≡ blockLength → i < most → CodeLong (slotOf (tagAt b i) (slotAt b i))
-unfolding part keptOf
+unfolding part keptAt
 slot-code b i h k = simp (length-take, length-drop) (omega arith)
 
 pub codes-held : (b : List ℕ) (h : Passed b) (x : ℕ) → All CodeLong (asWrittenIn (tableIn b) x)
@@ -274,12 +274,12 @@ unfolding bytesFrom storeAt
 kept-bytes x s ss k h = let z : k - mbrSource ≡ 0 = omega arith in rw z
 
 pub ebr-bytes : (x : List ℕ) (s : Store) (e : MBRPartitionEntry) (ls : List LogicalPartition) (k : ℕ) (l : LogicalPartition) (link : MBRPartitionEntry) → ebrSource ≤ k → k - ebrSource < length ls
-    → getD ls (k - ebrSource) noLogical ≡ l → link ≡ linkEntry (e .sys) (leads (e .«starting_lba») (next (drop (k - ebrSource + 1) ls) none)) → ebrBytes (ebrWith l link) ≡ bytesFrom x (s ∷ ebrStores e ls) k
+    → getD ls (k - ebrSource) noLogical ≡ l → link ≡ linkEntry (e .sys) (leads (e .«starting_lba») (next (drop (k - ebrSource + 1) ls) none)) → ebrBytes noMark (ebrWith l link) ≡ bytesFrom x (s ∷ ebrStores e ls) k
 ebr-bytes x s e ls k l link h i p q =
     let z : k ≡ ebrSource + (k - ebrSource) = omega arith in
     let n = next (drop (k - ebrSource + 1) ls) none in
     ebr-written e l n link q
-    ∙ ap (λ (a : LogicalPartition). write e a n .bytes) (sym p)
+    ∙ ap (λ (a : LogicalPartition). writePlain e a n .bytes) (sym p)
     ∙ sym (from-ebr x s (ebrStores e ls) k (k - ebrSource) z ∙ store-at e ls (k - ebrSource) i)
 
 pub valid-at : (x : List ℕ) (n m : ℕ) (first : List ℕ) (ls : List LogicalPartition) (e : MBRPartitionEntry) → Writing x n m first → All CodeLong ls → length ls ≡ m

@@ -17,14 +17,11 @@ get-chs-requires c κs = search needs
 get-last-requires : tie.Need-get-last-requires
 get-last-requires c κs = search needs
 
-part-of-requires : tie.Need-part-of-requires
-part-of-requires c κs = search needs
-
-kept-of-requires : tie.Need-kept-of-requires
-kept-of-requires c κs = search needs
+kept-at-requires : tie.Need-kept-at-requires
+kept-at-requires c κs = search needs
 
 returns : tie.Need-returns
-returns c = cc (c .before .part-of .ensures .0)
+returns c = cc
 
 pub get-slot-spec : {M : Type 1} → statement M
 get-slot-spec =
@@ -35,6 +32,5 @@ get-slot-spec =
     get-sectors-requires
     get-chs-requires
     get-last-requires
-    part-of-requires
-    kept-of-requires
+    kept-at-requires
     returns)

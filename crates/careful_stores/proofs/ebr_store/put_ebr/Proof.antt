@@ -1,9 +1,17 @@
 use mathlib.Core.Path.{_≡_, sym, _∙_}
 use lib.ListN.{length, length-map}
 use Rattle.careful_stores.proofs.ebr_store.Laws.{ebr-written}
+use Rattle.record_ebr.specs.Ebr.{markLength}
 use borrow.Author.Needs.{needs}
 use Rattle.careful_stores.proofs.ebr_store.put_ebr.Statement.{statement}
 use Rattle.careful_stores.proofs.ebr_store.put_ebr.Tie as tie
+
+-- the code has 446 bytes, the mark 32
+code-long : (s : tie.Start) → length (s .args .l .kept .«bootstrap_code») ≡ 446
+code-long s = sym (length-map (s .args .l .kept .«bootstrap_code») _) ∙ s .good .1 .1 .0 .1 .1 .1 .1 .1 .1 .1 .0 .1 .1 .0 .1 .0 .1
+
+mark-long : (s : tie.Start) → length (s .args .l .kept .mark) ≡ markLength
+mark-long s = sym (length-map (s .args .l .kept .mark) _) ∙ s .good .1 .1 .0 .1 .1 .1 .1 .1 .1 .1 .0 .1 .1 .1 .0 .1 .0 .1
 
 ebr-with-requires : tie.Need-ebr-with-requires
 ebr-with-requires c κs = search needs
@@ -22,10 +30,9 @@ same-length c = search needs
 
 returns : tie.Need-returns
 returns c =
-    let s = c .before .before .before .before .before .before .before .before .before .before .before in
+    let s = c .before .before .before .before .before .before .before .before .before .before .before .before in
     let a = s .args in
-    let n : length (a .l .kept .«bootstrap_code») ≡ 446 = sym (length-map (a .l .kept .«bootstrap_code») _) ∙ s .good .1 .1 .0 .1 .1 .1 .1 .1 .1 .1 .0 .1 .1 .0 .1 .0 .1 in
-    ebr-written (a .out .now) _ _ (a .at) (a .l) _ (a .link) (c .before .before .before .before .before .before .before .before .before .ebr-with .ensures) n (s .pre) (c .before .before .before .before .before .before .put32 .ensures) (c .before .before .write-at .ensures)
+    ebr-written (a .out .now) _ _ (a .at) (a .l) _ (a .link) (c .before .before .before .before .before .before .before .before .before .before .ebr-with .ensures) (mark-long s) (code-long s) (s .pre) (c .before .before .before .before .before .before .put32 .ensures) (c .before .before .write-at .ensures)
 
 pub put-ebr-spec : {M : Type 1} → statement M
 put-ebr-spec =

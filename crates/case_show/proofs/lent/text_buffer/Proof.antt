@@ -6,7 +6,7 @@ use Rattle.case_show.proofs.lent.text_buffer.Statement.{statement}
 use Rattle.case_show.proofs.lent.text_buffer.Tie as tie
 
 returns : tie.Need-returns
-returns c = sym (length-replicate {A = ℕ} 262144 0)
+returns c = sym (length-replicate {A = ℕ} 393216 0)
 
 pub text-buffer-spec : {M : Type 1} → statement M
 text-buffer-spec = tie.close (tie.spec returns)

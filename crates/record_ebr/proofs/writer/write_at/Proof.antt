@@ -2,6 +2,7 @@ use Rattle.record_ebr.proofs.writer.Parts.{written}
 use native.Mathlib.Omega.{arith}
 use lib.ListN.{length}
 use mathlib.Core.Path.{_≡_}
+use Rattle.record_ebr.specs.Ebr.{markLength}
 use borrow.Author.Needs.{needs}
 use Rattle.record_ebr.proofs.writer.write_at.Statement.{statement}
 use Rattle.record_ebr.proofs.writer.write_at.Tie as tie
@@ -51,7 +52,8 @@ returns : tie.Need-returns
 returns c =
     let s = c .before .before .before .before .before .before .before .before .before .before .before .before .before .before .before .before .before .before .before .before .before .before .before .before .before .before .before .before in
     let n : length (s .args .h .kept .«bootstrap_code») ≡ 446 = search needs in
-    written (s .args .d .now) _ _ _ _ _ (s .args .at) (s .args .h) n (s .pre)
+    let w : length (s .args .t4) ≡ markLength = search needs in
+    written (s .args .d .now) _ _ _ _ _ (s .args .at) (s .args .t4) (s .args .h) w n (s .pre)
     (c .before .before .before .before .before .before .before .before .before .before .before .before .before .before .before .before .before .before .before .before .before .before .copy-in .ensures)
     (c .before .before .before .before .before .before .before .before .before .before .before .before .before .before .before .before .before .write .ensures)
     (c .before .before .before .before .before .before .before .before .before .before .before .before .write2 .ensures)

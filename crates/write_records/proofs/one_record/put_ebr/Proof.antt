@@ -8,7 +8,7 @@ use Rattle.chain.proofs.links.ebr_with.Reads as ebr-with-reads
 use mathlib.Core.Path.{ap, _∙_}
 use Rattle.base.specs.Put.{put}
 use Rattle.record_ebr.specs.declared.EBRHeader.{EBRHeader}
-use Rattle.record_ebr.specs.Ebr.{ebrBytes}
+use Rattle.record_ebr.specs.Ebr.{noMark, ebrBytes}
 
 ebr-with-requires : tie.Need-ebr-with-requires
 ebr-with-requires c κs = search needs
@@ -22,7 +22,7 @@ same-length c = search needs
 returns : tie.Need-returns
 returns c =
     let a = c .before .before .before .before .before .before .args in
-    c .before .before .write-at .ensures ∙ ap (λ (h : EBRHeader). put (a .out .now) (a .at) (ebrBytes h)) (c .before .before .before .before .ebr-with .ensures)
+    c .before .before .write-at .ensures ∙ ap (λ (h : EBRHeader). put (a .out .now) (a .at) (ebrBytes noMark h)) (c .before .before .before .before .ebr-with .ensures)
 
 pub put-ebr-spec : {M : Type 1} → statement M
 put-ebr-spec = tie.close (tie.spec ebr-with-requires write-at-requires same-length returns)

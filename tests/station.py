@@ -335,9 +335,11 @@ def from_sfdisk(folder, n):
 
 
 def marked(image, rng):
-    """A mark of random bytes into every EBR. Where sfdisk looks for the type of a third and a fourth entry stands none of an
-    extended partition."""
+    """A mark of random bytes into every EBR with a partition: in one without sfdisk takes the mark for two entries. Where it
+    looks for the type of a third and a fourth entry stands none of an extended partition."""
     for l in m.read_table(image.extract()).logicals:
+        if l.partition.sys == 0:
+            continue
         mark = bytearray(rng.randbytes(32))
         mark[4] = mark[20] = 0xDA
         record = image.sector(l.absolute_ebr_lba)

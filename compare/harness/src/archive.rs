@@ -147,7 +147,9 @@ impl Archive {
         }
         let (align, cylinders, heads, sectors) = (numbers.u32(), numbers.u16(), numbers.u8(), numbers.u8());
         let t = read(&disk.bytes()).expect("a disk after a careful push is read");
-        Some(text::table(&MBR { align, cylinders, heads, sectors, ..t }))
+        let mut t = t;
+        (t.mbr.align, t.mbr.cylinders, t.mbr.heads, t.mbr.sectors) = (align, cylinders, heads, sectors);
+        Some(text::table(&t))
     }
 
     fn lay(&mut self, mut w: Words) -> Said {

@@ -310,10 +310,11 @@ impl Crate {
     /// its place in the order, the first-place rule.
     fn after_push(&mut self, mut w: Words) -> Said {
         let (align, cylinders, heads, sectors) = (w.u32(), w.u16(), w.u8(), w.u8());
-        let t = match self.read(&self.given.x.clone())? {
-            Ok(t) => MBR { align, cylinders, heads, sectors, ..t },
+        let mut t = match self.read(&self.given.x.clone())? {
+            Ok(t) => t,
             Err(r) => return Some(refused(&r)),
         };
+        (t.mbr.align, t.mbr.cylinders, t.mbr.heads, t.mbr.sectors) = (align, cylinders, heads, sectors);
         Some(match self.push(&t, &mut w)? {
             Ok((after, _)) => text::table(&in_place(after)),
             Err(r) => refused(&r),
@@ -411,10 +412,12 @@ impl Crate {
 
 /// The table after a push, the last partition moved behind those whose EBRs are at or below its own; then the first one's EBR
 /// at the extended partition's start, without link fields.
-fn in_place(mut t: MBR) -> MBR {
+fn in_place(mut t: Table) -> Table {
     let new = t.logical_partitions.pop().expect("push has put one");
+    let mark = t.marks.pop().expect("push has put one");
     let at = t.logical_partitions.iter().filter(|l| l.absolute_ebr_lba <= new.absolute_ebr_lba).count();
     t.logical_partitions.insert(at, new);
+    t.marks.insert(at, mark);
     let extended = text::entries(&t.header).into_iter().find(|e| e.is_extended()).expect("push asks for one").clone();
     let first = &mut t.logical_partitions[0];
     first.absolute_ebr_lba = extended.starting_lba;

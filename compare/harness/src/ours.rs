@@ -5,7 +5,7 @@ use std::path::PathBuf;
 use std::process::{Command, Stdio};
 
 /// A program reads at most so many bytes.
-const MOST: usize = 262144;
+const MOST: usize = 393216;
 
 const NUMBERS5: [&str; 12] = ["get", "len", "find", "remove", "remove_at", "check_geometry", "cylinder_size", "update_chs",
     "push", "push_all", "new_from", "update_from"];

@@ -1,6 +1,8 @@
 // Addresses and types for programs in C and Rust: functions on numbers.
 // Scope: module 1; Records (Extended); module 5 (`update_chs`). Rules: Z. An answer is as in `abi_word`.
 // For callers: `cv_chs_…`, `cv_is_extended`, `cv_update_chs` on a lone slot.
+#![tactic(auto)]
+
 pub mod chs_word;
 pub mod slot_chs;
 

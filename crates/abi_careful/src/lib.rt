@@ -1,6 +1,8 @@
 // The careful changes for programs in C and Rust: an extract in, stores out.
 // Scope: Careful changes. Rules: Z. An answer is the number of stores, as one number as in `abi_word`.
 // For callers: `cv_careful_push`, `cv_careful_remove`, `cv_is_sound` on a table as a block.
+#![tactic(auto)]
+
 pub mod soundness;
 
 ghost use Rattle.std.specs.Prelude.{◌≡◌, ◌≤◌, length};

@@ -1,6 +1,8 @@
 // Extracts for programs in C and Rust: functions on numbers and lent bytes.
 // Scope: The extract; the listing. Rules: Z. An answer is one number as in `abi_word`.
 // For callers: `cv_extract_check`, `cv_look_up`, `cv_look_up_answer`, `cv_wanted`, `cv_lay_over`, `cv_listing`.
+#![tactic(auto)]
+
 pub mod length_word;
 pub mod record_place;
 pub mod wanted_word;

@@ -1,6 +1,8 @@
 // A header alone for programs in C and Rust: the bytes that it has in a block.
 // Scope: Reading and module 8, of record 0 alone. Rules: Z.
 // For callers: `cv_read_header`, `cv_write_header`.
+#![tactic(auto)]
+
 pub mod header_bytes;
 
 ghost use Rattle.std.specs.Prelude.{◌≡◌, length};

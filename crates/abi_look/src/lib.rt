@@ -1,6 +1,8 @@
 // Lookup for programs in C and Rust, on a table as a block, with free runs, places, sizes.
 // Scope: modules 5, 6. Rules: Z. An answer is one number as in `abi_word`, 255 in its upper half for none.
 // For callers: `cv_find_…`, `cv_get_…`, `cv_len`, `cv_get`, `cv_check_geometry`.
+#![tactic(auto)]
+
 pub mod free_runs;
 
 ghost use Rattle.std.specs.Prelude.{◌≡◌, length};

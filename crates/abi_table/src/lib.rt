@@ -1,6 +1,8 @@
 // Tables for programs in C and Rust, as blocks: reading, push, removal, a new one, another disk.
 // Scope: modules 4, 5, 7. Rules: Z. What only refuses answers the refusal's number or 0; push answers as in `abi_word`.
 // For callers: `cv_read`, `cv_push`, `cv_remove`, `cv_remove_at_sector`, `cv_new_from`, `cv_update_from`.
+#![tactic(auto)]
+
 pub mod edits;
 
 ghost use Rattle.std.specs.Prelude.{◌≡◌, length};

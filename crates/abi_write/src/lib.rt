@@ -1,6 +1,8 @@
 // Writing for programs in C and Rust: the table of a block over an extract.
 // Scope: module 8. Rules: Z. The block is left as writing leaves its table; an answer is as in `abi_word`.
 // For callers: `cv_write_into`.
+#![tactic(auto)]
+
 ghost use Rattle.std.specs.Prelude.{◌≡◌, length};
 ghost use Rattle.write_rules.specs.Answers.{write_table};
 ghost use Rattle.abi_word.specs.Packed.{packed};

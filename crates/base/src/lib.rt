@@ -1,6 +1,8 @@
 // Numbers in lent bytes, lists laid over lists, refusals in order.
 // Scope: all numbers little-endian; of several refusals the first is answered; other lent bytes stay. Rules: G.
 // For our crates: `get16`, `get32`, `put8`, `put16`, `put32`, `copy_in`, `stands_at`; `Answer`, a refusal or none.
+#![tactic(auto)]
+
 ghost use Rattle.std.specs.Prelude.{◌≡◌, ◌+◌, ◌≤◌, ◌<◌, List, [], ◌∷◌, length};
 ghost use Rattle.base.specs.Bytes.{number, bytes_of, bytes_at, stands_at, little};
 ghost use Rattle.base.specs.Put.{put};

@@ -1,6 +1,8 @@
 // The table block: a table as bytes at fixed offsets, for callers that hold no struct of ours; its layout, its laws.
 // Scope: none, it is ours. Rules: Z.
 // For our crates: `BLOCK`, its length, `slot_at`, `tag_at`; all else is definitions.
+#![tactic(auto)]
+
 ghost use Rattle.std.specs.Prelude.{◌≡◌, ◌<◌};
 ghost use Rattle.table.specs.Table.{most};
 ghost use Rattle.block.specs.Block.{slot_start, tag_start};

@@ -1,6 +1,8 @@
 // `push` on the table in a block, where it lies.
 // Scope: module 7, for C. Rules: Z.
 // For our crates: `push_on`.
+#![tactic(auto)]
+
 pub mod added;
 pub mod asks;
 

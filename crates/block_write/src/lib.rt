@@ -1,6 +1,8 @@
 // A table written as a block.
 // Scope: none, it is ours; refusal 6 of a count. Rules: Z.
 // For our crates: `put`, `put_all`.
+#![tactic(auto)]
+
 pub mod parts_out;
 
 ghost use Rattle.std.specs.Prelude.{◌≡◌, ◌≤◌, length};

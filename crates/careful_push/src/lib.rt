@@ -1,6 +1,8 @@
 // Careful push over an extract: stores in lent bytes, or a refusal.
 // Scope: Careful changes (Careful push; refusals 20, 23, 12, 21, 19). Rules: K, defined in `careful`.
 // For callers: `careful_push`, `Changed`.
+#![tactic(auto)]
+
 pub mod askable;
 pub mod between;
 

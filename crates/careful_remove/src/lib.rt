@@ -1,6 +1,8 @@
 // Careful removal over an extract: one store in lent bytes, or a refusal.
 // Scope: Careful changes (Careful removal; refusals 20, 17, 19). Rules: V, defined in `careful`.
 // For callers: `careful_remove`.
+#![tactic(auto)]
+
 pub mod remove_stores;
 pub mod remove_writer;
 

@@ -1,6 +1,8 @@
 // The answer to one case of records or extracts, by its command.
 // Scope: modules 1 to 3, run and compared.
 // For the program `case_records` alone: `cases::run`.
+#![tactic(auto)]
+
 pub mod cases;
 pub mod on_chs;
 pub mod on_ebr;

@@ -1,5 +1,7 @@
 // A program that answers the cases of careful changes.
 // Scope: Careful changes, run and compared; the cases stand on standard input, second/answers.py has their commands.
+#![tactic(auto)]
+
 mod on_careful;
 
 use case_show::lent::Lengths;

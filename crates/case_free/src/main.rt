@@ -1,5 +1,7 @@
 // A program that answers the cases of free runs, places and the two forms that take a reference.
 // Scope: module 6, run and compared; the cases stand on standard input, second/answers.py has their commands.
+#![tactic(auto)]
+
 mod on_free;
 mod on_lent;
 

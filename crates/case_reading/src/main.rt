@@ -1,5 +1,7 @@
 // A program that answers the cases of reading.
 // Scope: module 4, run and compared; the cases stand on standard input, second/answers.py has their commands.
+#![tactic(auto)]
+
 mod on_read;
 
 use case_show::lent::Lengths;

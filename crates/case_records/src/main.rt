@@ -1,5 +1,7 @@
 // A program that answers the cases of records and extracts.
 // Scope: modules 1 to 3, run and compared; the cases stand on standard input, second/answers.py has their commands.
+#![tactic(auto)]
+
 
 fn main() {
     let mut text = case_show::lent::text_buffer();

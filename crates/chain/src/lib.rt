@@ -1,6 +1,8 @@
 // What a chain of EBRs is: where a link leads, an EBR opened, what follows it; an EBR with its link, as it is written.
 // Scope: Reading (per EBR 2, 3, 4, 6, 7, 5; link start 0 ends it; the first EBR forgiven; link fields); Records (a written link). Rules: R, W.
 // For our crates: `open_at`, `what_follows`, `place`, `link_of`, `links::link_to`, `links::ebr_with`.
+#![tactic(auto)]
+
 pub mod links;
 
 ghost use Rattle.std.specs.Prelude.{◌≡◌, ◌+◌, ◌-◌, ◌<◌};

@@ -1,6 +1,8 @@
 // The extract: a header, n LBAs, n records; the disk that it stands for.
 // Scope: The extract (its rules, LBAs ascend, looking a record up, a disk after stores); module 3. Rules: X.
 // For callers: `check`, `look_up_record::look_up`, `look_up_record::look_up_answer`, `byte_place`.
+#![tactic(auto)]
+
 pub mod header_out;
 pub mod header_rules;
 pub mod list_out;

@@ -1,6 +1,8 @@
 // What the program `list` does, and those that run it on other extracts.
 // Scope: Numbers to hold (the listing program). Rules: T, by `read_listing`.
 // For the programs `list…` alone: `list_input`.
+#![tactic(auto)]
+
 use read_listing::Listed;
 
 // Reads an extract on standard input and writes the listing of its table.

@@ -1,6 +1,8 @@
 // The alignment of a table: found from its used starts.
 // Scope: Reading (Alignment); module 4. Rules: A.
 // For callers: `find_alignment`; for our crates `Starts`, `used_starts::starts_of`.
+#![tactic(auto)]
+
 mod divisor;
 pub mod used_starts;
 

@@ -1,6 +1,8 @@
 // The chain of an extract, walked by EBR step, link step; the logical partitions in it.
 // Scope: Reading, module 4: the chain as `chain` defines it. Rules: R.
 // For our crates: `read_chain`, `logicals::attach`.
+#![tactic(auto)]
+
 pub mod logicals;
 
 ghost use Rattle.std.specs.Prelude.{◌≡◌, [], ◌+◌, ◌-◌, ◌≤◌, length, drop};

@@ -1,6 +1,8 @@
 // The header alone, read from an extract.
 // Scope: Refusal numbers (reading: 1, 2, 3, 4). Rules: R.
 // For callers: `read_header`.
+#![tactic(auto)]
+
 ghost use Rattle.std.specs.Prelude.{◌≡◌};
 ghost use Rattle.base.specs.Said.{refuses, failure, value_or, refusal};
 ghost use Rattle.record_mbr.specs.Mbr.{no_header};

@@ -1,6 +1,8 @@
 // The listing of an extract's table, as text.
 // Scope: Numbers to hold (the listing: first line, used entries, two hex digits in capitals, `refused`). Rules: T.
 // For callers: `listing`, `list_table`.
+#![tactic(auto)]
+
 pub mod entry_lines;
 pub mod phrases;
 pub mod text;

@@ -1,6 +1,8 @@
 // Reading: the whole table of an extract, or the sectors that reading still wants.
 // Scope: Reading; Refusal numbers (reading: 1, 2, 3, 4, chain, 7); module 4. Rules: R.
 // For callers: `read_from`, `wanted`; it passes on `read_header`.
+#![tactic(auto)]
+
 
 ghost use Rattle.std.specs.Prelude.{◌≡◌, ◌≤◌, length, take};
 ghost use Rattle.base.specs.Said.{gives, refuses, failure, refusal};

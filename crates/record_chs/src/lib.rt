@@ -1,6 +1,8 @@
 // CHS addresses: cylinder, head, sector; from a sector, to a sector, as three bytes.
 // Scope: Records (CHS bytes); module 1. Rules: C.
 // For callers: `CHS::new`, `empty`, `from_lba_exact`, `from_lba_aligned`, `to_lba`, `is_valid`, `of_bytes`, `to_bytes`.
+#![tactic(auto)]
+
 pub mod three_bytes;
 
 ghost use Rattle.std.specs.Prelude.{◌≡◌, ◌+◌, ◌*◌, ◌-◌, ◌/◌, ◌≤◌, ◌<◌, ◌%◌};

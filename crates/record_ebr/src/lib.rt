@@ -1,6 +1,8 @@
 // The EBR record: code, partition entry, link entry, mark, 55 AA; read or written.
 // Scope: Records (EBR); module 2. Rules: B.
 // For callers: `EBRHeader`, `reader::read`, `writer::write`; for our crates `open`, `kept_of`, `kept_at`, `MARK`.
+#![tactic(auto)]
+
 pub mod reader;
 pub mod writer;
 

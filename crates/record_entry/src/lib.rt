@@ -1,6 +1,8 @@
 // A partition entry: flag, first CHS, type, last CHS, start, sectors.
 // Scope: Records (Entry: used, extended types, the flag 00 or 80); module 2. Rules: E.
 // For callers: `MBRPartitionEntry` with `empty`, `is_used`, `is_unused`, `is_extended`, `is_active`, `check`.
+#![tactic(auto)]
+
 pub mod reader;
 pub mod writer;
 

@@ -1,6 +1,8 @@
 // The MBR record: a disk's first sector, read or written.
 // Scope: Records (MBR: code, signature, copy mark, four entries, 55 AA; the first extended counts); module 2. Rules: M.
 // For callers: `MBRHeader` with `new`, `check`, `get`, `get_extended_partition`; `reader::read`, `writer::write`.
+#![tactic(auto)]
+
 pub mod fields_read;
 pub mod fields_written;
 pub mod reader;

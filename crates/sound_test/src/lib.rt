@@ -1,6 +1,8 @@
 // The test for a sound table.
 // Scope: Careful changes (Sound); refusal 20. Rules: S.
 // For callers: `sound`.
+#![tactic(auto)]
+
 pub mod few;
 
 ghost use Rattle.std.specs.Prelude.{◌≡◌};

@@ -1,6 +1,8 @@
 // The numbers that are marked with a star hold: one proved table, in specs/Starred.antt.
 // Scope: Numbers to hold (those marked *).
 // `all_hold` answers true, by its contract.
+#![tactic(auto)]
+
 ghost use Rattle.std.specs.Prelude.{◌≡◌};
 ghost use Rattle.starred.specs.Starred.{rows, hold_each};
 

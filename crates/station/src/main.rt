@@ -1,5 +1,7 @@
 // The station's program: lists the table of a disk or an image, writes its extract, and changes it carefully.
 // Scope: none, it is ours, over reading and the careful changes.
+#![tactic(auto)]
+
 mod change;
 mod wishes;
 

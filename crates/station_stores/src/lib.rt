@@ -1,6 +1,8 @@
 // The stores of a careful change: shown to the operator, or put on the disk behind a copy of its extract.
 // Scope: Careful changes, on real disks.
 // For the program `station` alone.
+#![tactic(auto)]
+
 pub mod output;
 pub mod put;
 pub mod save;

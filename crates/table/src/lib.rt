@@ -1,6 +1,8 @@
 // The partition table by value: `MBR`, `LogicalPartition`, the capacities.
 // Scope: Ground covered (how many logical partitions at most); relative and absolute LBAs kept apart. Rules: G, A.
 // For callers: `MBR` with `DEFAULT_ALIGN`, `MAX_ALIGN`; `LogicalPartition::empty`; `DiskLba`, `LinkLba`; `LOGICALS`.
+#![tactic(auto)]
+
 ghost use Rattle.std.specs.Prelude.{◌≡◌};
 ghost use Rattle.table.specs.Table.{default_align, greatest_align, empty_slot};
 

@@ -1,6 +1,8 @@
 // The four addresses of a logical partition in a geometry.
 // Scope: module 5 (`update_chs`), module 7 (geometry if complete: 7, 13, 14). Rules: U.
 // For callers: `four::update_chs`, `is_complete`, `Geometry`.
+#![tactic(auto)]
+
 pub mod four;
 
 ghost use Rattle.std.specs.Prelude.{◌≡◌, ◌+◌, ◌-◌};

@@ -1,6 +1,8 @@
 // Free runs: the crate's answer, no truth about what is free.
 // Scope: module 6 (positions, pairs, the extended area). Rules: F.
 // For callers: `search::find_free_sectors`.
+#![tactic(auto)]
+
 pub mod ascending;
 pub mod gaps;
 pub mod search;

@@ -1,6 +1,8 @@
 // Lookup in a table: the entry of a partition number, the partition at a sector.
 // Scope: module 5 (`find_at_sector`); a number with no entry answers none. Rules: L.
 // For callers: `get`, `len`, `at_sector::find_at_sector`; for our crates `kind_of`, `hits`.
+#![tactic(auto)]
+
 pub mod at_sector;
 pub mod hits;
 

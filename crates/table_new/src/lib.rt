@@ -1,6 +1,8 @@
 // A table for the disk of an extract: a new one, or a given one put on it.
 // Scope: module 5 (`new_from`, `update_from`: sector size, D). Rules: N.
 // For callers: `new_from`, `update_from`.
+#![tactic(auto)]
+
 ghost use Rattle.std.specs.Prelude.{◌≡◌};
 ghost use Rattle.base.specs.Said.{refusal, failure, value_or};
 ghost use Rattle.table_new.specs.Disk.{new_table, new_says, no_new, update_says};

@@ -1,6 +1,8 @@
 // A place for a partition in the free runs: first, last or best; maximum sizes.
 // Scope: module 6 (First, last, best place, maximum sizes); refusals 15, 16. Rules: Q.
 // For callers: `places::find_first_place`, `find_last_place`, `find_optimal_place`; `sizes::get_maximum_…`.
+#![tactic(auto)]
+
 pub mod places;
 pub mod sizes;
 

@@ -1,6 +1,8 @@
 // `push`: one more logical partition in a table.
 // Scope: module 7 (its refusals in their order), module 5 (`check_geometry`). Rules: P, U.
 // For callers: `push`, `check_geometry`, `get_cylinder_size`; for our crates `new_logical` of a `Request`.
+#![tactic(auto)]
+
 pub mod request;
 
 ghost use Rattle.std.specs.Prelude.{◌≡◌, ◌+◌, ◌-◌, ◌*◌, ◌≤◌, ◌<◌, ◌^◌, [], ◌∷◌, ◌++◌, ltb, set};

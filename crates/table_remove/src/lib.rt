@@ -1,6 +1,8 @@
 // Removal of a partition from a table, by its number or by a sector.
 // Scope: module 5 (`remove`, `remove_at_sector`); refusal 17. Rules: D.
 // For callers: `remove`, `at_sector::remove_at_sector`.
+#![tactic(auto)]
+
 pub mod at_sector;
 pub mod without;
 

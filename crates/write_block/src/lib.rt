@@ -1,6 +1,8 @@
 // A block as writing leaves it: its slots put where they stand.
 // Scope: module 8 (the table as `write_into` leaves it), for C. Rules: Z.
 // For our crates: `leave_on`.
+#![tactic(auto)]
+
 pub mod written_slots;
 
 ghost use Rattle.std.specs.Prelude.{◌≡◌};

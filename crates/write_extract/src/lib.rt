@@ -1,6 +1,8 @@
 // The new extract of a table that is written.
 // Scope: module 8 (the old extract with record 0 and each EBR laid over in chain order; 22, 19). Rules: W, defined in `write_rules`.
 // For our crates: `put_table`.
+#![tactic(auto)]
+
 pub mod plan_for;
 
 ghost use Rattle.std.specs.Prelude.{◌≡◌, length};

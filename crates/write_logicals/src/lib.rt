@@ -1,6 +1,8 @@
 // The logical partitions as writing leaves them, or what it refuses of them.
 // Scope: module 8 (geometry as in push; per logical 4, 2, 18). Rules: W.
 // For our crates: `settle`, `addressed::settled_slot`, `addressed::addressed_slot`, `in_slots::place`.
+#![tactic(auto)]
+
 pub mod addressed;
 pub mod in_slots;
 

@@ -1,6 +1,8 @@
 // The records of the new extract, each in its planned place, by ascending LBA.
 // Scope: module 8. Rules: W, defined in `write_rules`.
 // For our crates: `put_records`.
+#![tactic(auto)]
+
 pub mod one_record;
 
 ghost use Rattle.std.specs.Prelude.{◌≡◌, ◌+◌, ◌*◌, ◌≤◌, length};

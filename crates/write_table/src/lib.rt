@@ -1,6 +1,8 @@
 // Writing: a table, or a header alone, over an extract into a second buffer.
 // Scope: module 8. Rules: W.
 // For callers: `write_into`, `write_header`; for our crates `write_in_place`.
+#![tactic(auto)]
+
 ghost use Rattle.std.specs.Prelude.{◌≡◌, [], ◌∷◌, ◌++◌, ◌<◌, ltb, length};
 ghost use Rattle.std.proofs.Math.Option.{some};
 ghost use Rattle.base.specs.Said.{refuses, refusal, gives, value_or};

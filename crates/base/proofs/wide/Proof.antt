@@ -1,6 +1,0 @@
-use borrow.Author.Rules.{rules}
-use Rattle.base.proofs.wide.Statement.{statement}
-use Rattle.base.proofs.wide.Tie as tie
-
-pub wide_spec : {M : Type 1} → statement M
-wide_spec = tie.close (tie.spec (λ c. search rules))

@@ -1,0 +1,30 @@
+use native.Mathlib.Nat.{lt_trans, lt_of_le_of_lt}
+use native.Mathlib.Omega.{arith}
+use lib.Dec.{lit<}
+use Rattle.record_chs.proofs.Small.{under, right-pos, head-fits, sector-fits}
+use borrow.Author.Rules.{rules}
+use Rattle.record_chs.proofs.address_of.Goals as goal
+
+-- TODO rem-rem : tie.Need-nonzero-rem-rem
+-- rem-rem c = search rules
+
+-- TODO div-t8 : tie.Need-nonzero-div-t8
+-- div-t8 c = search rules
+
+-- TODO div-t10 : tie.Need-nonzero-div-t10
+-- div-t10 c = right-pos _ _ c.requires.0
+
+-- TODO rem-t12 : tie.Need-nonzero-rem-t12
+-- rem-t12 c = right-pos _ _ c.requires.0
+
+pub overflow_mul-size : goal.overflow_mul-size
+overflow_mul-size c = record { fits = lt_of_le_of_lt (under 255 255 (search rules) (search rules)) (lit< tt) }
+
+pub overflow_cast-result-2 : goal.overflow_cast-result-2
+overflow_cast-result-2 c = record { fits = lt_trans (head-fits _ _ _ c.requires.0) (search rules) }
+
+pub overflow_add-result : goal.overflow_add-result
+overflow_add-result c = omega (arith, sector-fits c.args.lba c.args.heads c.args.sectors c.requires.0)
+
+pub overflow_cast-result-3 : goal.overflow_cast-result-3
+overflow_cast-result-3 c = omega (arith, sector-fits c.args.lba c.args.heads c.args.sectors c.requires.0)

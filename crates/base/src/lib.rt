@@ -8,7 +8,7 @@ ghost use Rattle.base.specs.Bytes.{number, bytes_of, bytes_at, stands_at, little
 ghost use Rattle.base.specs.Put.{put};
 
 // Why a call is refused: the refusal's number.
-#[derive(Drop)]
+#[derive(Clone, Copy)]
 pub struct Refusal {
     pub number: u8,
 }
@@ -67,7 +67,7 @@ impl Refusal {
 }
 
 // What a call that changes lent bytes, or returns a value beside it, says.
-#[derive(Drop)]
+#[derive(Clone, Copy)]
 pub enum Answer {
     Done,
     Refused(Refusal),

@@ -11,7 +11,7 @@ use base::Answer;
 use table_place::{Place, Rule};
 
 // Which place is asked for.
-#[derive(Drop)]
+#[derive(Clone, Copy)]
 pub enum Which {
     First,
     Last,

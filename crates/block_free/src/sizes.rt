@@ -11,7 +11,7 @@ use base::Answer;
 use table_place::Size;
 
 // Whose maximum size is asked for: a new partition's, or that of the one with a number.
-#[derive(Drop)]
+#[derive(Clone, Copy)]
 pub enum Whose {
     New,
     Number(u32),

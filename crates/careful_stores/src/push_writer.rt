@@ -10,7 +10,7 @@ use record_entry::MBRPartitionEntry;
 use table::LogicalPartition;
 
 // The number of stores, or a refusal.
-#[derive(Drop)]
+#[derive(Clone, Copy)]
 pub enum Changed {
     Stores(usize),
     Refused(Refusal),
@@ -18,7 +18,7 @@ pub enum Changed {
 
 // What a new partition stands between: how many are before it, the last of them (an unused slot if there is none), where it
 // must end, and the link to what follows it.
-#[derive(Drop)]
+#[derive(Clone, Copy)]
 pub struct Between {
     pub order: usize,
     pub earlier: LogicalPartition,

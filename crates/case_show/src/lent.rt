@@ -11,7 +11,7 @@ pub fn text_buffer() -> [u8; 393216]
 }
 
 // The lengths of X and of O.
-#[derive(Drop)]
+#[derive(Clone, Copy)]
 pub struct Lengths {
     pub x: usize,
     pub o: usize,

@@ -17,7 +17,7 @@ fn find(s: &[u8], from: usize, b: u8) -> usize
 }
 
 // Where a piece ends, and where the next one starts.
-#[derive(Drop)]
+#[derive(Clone, Copy)]
 pub struct Piece {
     pub end: usize,
     pub next: usize,

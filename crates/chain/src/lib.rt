@@ -20,14 +20,14 @@ use record_entry::MBRPartitionEntry;
 use table::{DiskLba, LinkLba};
 
 // Where a link leads: beyond the disk, or to a place on it. A place beyond 32 bits is beyond every disk.
-#[derive(Drop)]
+#[derive(Clone, Copy)]
 pub enum Reached {
     Beyond,
     At(DiskLba),
 }
 
 // An EBR that is opened: the number of its record, its place, its partition's start and its link's.
-#[derive(Drop)]
+#[derive(Clone, Copy)]
 pub struct Head {
     pub number: usize,
     pub at: DiskLba,
@@ -36,7 +36,7 @@ pub struct Head {
 }
 
 // What stands at a link's place: a refusal, a sector without a record, or an EBR.
-#[derive(Drop)]
+#[derive(Clone, Copy)]
 pub enum Met {
     Refused(Refusal),
     Absent(DiskLba),
@@ -44,7 +44,7 @@ pub enum Met {
 }
 
 // What follows an EBR: an end, a link, or a refusal.
-#[derive(Drop)]
+#[derive(Clone, Copy)]
 pub enum Follows {
     End,
     Link(LinkLba),
@@ -52,7 +52,7 @@ pub enum Follows {
 }
 
 // The number of EBRs of a chain, or a refusal and none.
-#[derive(Drop)]
+#[derive(Clone, Copy)]
 pub struct Counted {
     pub answer: Answer,
     pub count: usize,

@@ -27,7 +27,7 @@ pub const RECORDS: usize = 64;
 pub const LARGEST: usize = 24 + 516 * RECORDS;
 
 // What the header of a checked extract says.
-#[derive(Drop)]
+#[derive(Clone, Copy)]
 pub struct Extract {
     pub sector_size: u32,
     pub disk_size: u32,
@@ -35,21 +35,21 @@ pub struct Extract {
 }
 
 // What checking an extract finds.
-#[derive(Drop)]
+#[derive(Clone, Copy)]
 pub enum Header {
     Good(Extract),
     Refused(Refusal),
 }
 
 // A place on the disk in bytes.
-#[derive(Drop)]
+#[derive(Clone, Copy)]
 pub enum BytePlace {
     At(u64),
     Refused(Refusal),
 }
 
 // Where an LBA stands in the list: at a number, or before the one of a number.
-#[derive(Drop)]
+#[derive(Clone, Copy)]
 pub enum ListSpot {
     Found(usize),
     Absent(usize),

@@ -10,7 +10,7 @@ pub mod replace;
 use base::Refusal;
 
 // What laying a record over an extract says: the new extract's length, or the refusal.
-#[derive(Drop)]
+#[derive(Clone, Copy)]
 pub enum Laid {
     Length(usize),
     Refused(Refusal),

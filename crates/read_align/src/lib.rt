@@ -17,7 +17,7 @@ use record_entry::MBRPartitionEntry;
 use table::MBR;
 
 // An alignment, or a refusal.
-#[derive(Drop)]
+#[derive(Clone, Copy)]
 pub enum Aligned {
     Align(u32),
     Refused(Refusal),
@@ -27,7 +27,7 @@ pub enum Aligned {
 pub const STARTS: usize = 4 + table::LOGICALS;
 
 // The starts of used entries.
-#[derive(Drop)]
+#[derive(Clone, Copy)]
 pub struct Starts {
     pub at: [u32; STARTS],
     pub count: usize,

@@ -11,7 +11,7 @@ use record_entry::MBRPartitionEntry;
 use table::{LOGICALS, LogicalPartition, MaybeChs, MaybeSectors};
 
 // The way to an EBR: its link's sectors, first and last CHS.
-#[derive(Drop)]
+#[derive(Clone, Copy)]
 pub struct Way {
     pub sectors: MaybeSectors,
     pub first: CHS,

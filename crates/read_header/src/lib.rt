@@ -15,7 +15,7 @@ use extract::Header;
 use record_mbr::MBRHeader;
 
 // A header, or a refusal with an empty one.
-#[derive(Drop)]
+#[derive(Clone, Copy)]
 pub struct HeaderRead {
     pub answer: Answer,
     pub header: MBRHeader,

@@ -23,7 +23,7 @@ pub const LINE: usize = 64;
 pub const LISTING: usize = LINE * (LOGICALS + 8);
 
 // A text's length, or a refusal.
-#[derive(Drop)]
+#[derive(Clone, Copy)]
 pub enum Listed {
     Length(usize),
     Refused(Refusal),

@@ -29,14 +29,14 @@ use record_mbr::{Found, MBRHeader};
 use table::{DiskLba, LOGICALS, LinkLba, LogicalPartition, MBR};
 
 // A table, or a refusal with an empty one.
-#[derive(Drop)]
+#[derive(Clone, Copy)]
 pub struct ReadAnswer {
     pub answer: Answer,
     pub table: MBR,
 }
 
 // A sector that reading would look at, nothing, or a refusal.
-#[derive(Drop)]
+#[derive(Clone, Copy)]
 pub enum Want {
     Nothing,
     Sector(u32),

@@ -10,7 +10,7 @@ ghost use Rattle.record_chs.specs.Chs.{chs, no_chs, chs_of, chs_bytes, address_o
 
 use base::Refusal;
 
-#[derive(Drop)]
+#[derive(Clone, Copy)]
 pub struct CHS {
     pub cylinder: u16,
     pub head: u8,
@@ -18,14 +18,14 @@ pub struct CHS {
 }
 
 // An address, or a refusal's number.
-#[derive(Drop)]
+#[derive(Clone, Copy)]
 pub enum Placed {
     At(CHS),
     Refused(Refusal),
 }
 
 // A sector, or a refusal's number.
-#[derive(Drop)]
+#[derive(Clone, Copy)]
 pub enum Lba {
     At(u32),
     Refused(Refusal),

@@ -19,14 +19,14 @@ pub const MARK: usize = 32;
 pub const MARK_AT: usize = 478;
 
 // What an EBR carries beside its entries: the code, and the mark that the platesetter's maker puts there.
-#[derive(Drop)]
+#[derive(Clone, Copy)]
 pub struct Kept {
     pub bootstrap_code: [u8; 446],
     pub mark: [u8; MARK],
 }
 
 // An EBR: the partition's entry and the link's.
-#[derive(Drop)]
+#[derive(Clone, Copy)]
 pub struct EBRHeader {
     pub kept: Kept,
     pub partition_1: MBRPartitionEntry,
@@ -34,14 +34,14 @@ pub struct EBRHeader {
 }
 
 // The two entries without what is kept.
-#[derive(Drop)]
+#[derive(Clone, Copy)]
 pub struct Entries {
     pub partition_1: MBRPartitionEntry,
     pub partition_2: MBRPartitionEntry,
 }
 
 // An EBR's entries, or a refusal.
-#[derive(Drop)]
+#[derive(Clone, Copy)]
 pub enum Opened {
     Refused(Refusal),
     Ebr(Entries),

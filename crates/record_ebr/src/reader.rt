@@ -8,7 +8,7 @@ ghost use Rattle.record_ebr.specs.Ebr.{ebr_of, ebr_read_checks, no_ebr};
 use crate::{EBRHeader, Opened};
 use base::{Answer, Refusal};
 
-#[derive(Drop)]
+#[derive(Clone, Copy)]
 pub struct EbrAnswer {
     pub answer: Answer,
     pub ebr: EBRHeader,

@@ -15,7 +15,7 @@ pub const BOOT_ACTIVE: u8 = 0x80;
 
 pub const BOOT_INACTIVE: u8 = 0x00;
 
-#[derive(Drop)]
+#[derive(Clone, Copy)]
 pub struct MBRPartitionEntry {
     pub boot: u8,
     pub first_chs: CHS,

@@ -16,7 +16,7 @@ ghost use Rattle.record_mbr.specs.Mbr.{primaries, header_checks, new_header, ext
 use base::{Answer, Refusal};
 use record_entry::MBRPartitionEntry;
 
-#[derive(Drop)]
+#[derive(Clone, Copy)]
 pub struct MBRHeader {
     pub bootstrap_code: [u8; 440],
     pub disk_signature: [u8; 4],
@@ -29,14 +29,14 @@ pub struct MBRHeader {
 }
 
 // An entry, or none.
-#[derive(Drop)]
+#[derive(Clone, Copy)]
 pub enum Found {
     Nothing,
     Entry(MBRPartitionEntry),
 }
 
 // The copy mark.
-#[derive(Drop)]
+#[derive(Clone, Copy)]
 pub enum Protection {
     No,
     Yes,

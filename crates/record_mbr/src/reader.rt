@@ -8,7 +8,7 @@ ghost use Rattle.record_mbr.specs.Mbr.{mbr_of, mbr_read_checks, no_header};
 use crate::MBRHeader;
 use base::{Answer, Refusal};
 
-#[derive(Drop)]
+#[derive(Clone, Copy)]
 pub struct HeaderAnswer {
     pub answer: Answer,
     pub header: MBRHeader,

@@ -13,7 +13,7 @@ use base::Refusal;
 use table::{LOGICALS, MBR};
 
 // Sound or not, or a refusal.
-#[derive(Drop)]
+#[derive(Clone, Copy)]
 pub enum Soundness {
     Sound,
     Unsound,

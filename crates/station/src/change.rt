@@ -6,7 +6,7 @@ use station_words::{errors, slices};
 use table_push::Request;
 
 // Where a change works: an open disk, its sector size and whether the operator named it, and whether the change is only shown.
-#[derive(Drop)]
+#[derive(Clone, Copy)]
 struct Target {
     fd: i32,
     sector: u32,
@@ -15,7 +15,7 @@ struct Target {
 }
 
 // A push, and whether it may overwrite a first sector that is no boot record; or the removal of the partition with a number.
-#[derive(Drop)]
+#[derive(Clone, Copy)]
 pub struct Wish {
     pub request: Request,
     pub overwrite: bool,

@@ -6,7 +6,7 @@ use read_table::Want;
 use station_words::{errors, slices};
 
 // The extract's length so far, or why there is none, and whether there is more to collect.
-#[derive(Drop)]
+#[derive(Clone, Copy)]
 struct Step {
     length: usize,
     more: bool,

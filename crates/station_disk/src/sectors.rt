@@ -3,7 +3,7 @@ use extract::BytePlace;
 use libc::SEEK_END;
 
 // The number of sectors, or why there is none, by one of the numbers below.
-#[derive(Drop)]
+#[derive(Clone, Copy)]
 pub enum Sectors {
     Are(u32),
     Unknown(usize),

@@ -2,7 +2,7 @@
 use crate::{args, slices, wrong};
 
 // Cylinders, heads and sectors of a geometry, and whether it is one.
-#[derive(Drop)]
+#[derive(Clone, Copy)]
 pub struct Shape {
     pub cylinders: u16,
     pub heads: u8,

@@ -15,28 +15,28 @@ use record_mbr::MBRHeader;
 pub const LOGICALS: usize = 24;
 
 // A place that a link gives, counted from the extended partition's start.
-#[derive(Drop)]
+#[derive(Clone, Copy)]
 pub struct LinkLba(pub u32);
 
 // A place on the disk.
-#[derive(Drop)]
+#[derive(Clone, Copy)]
 pub struct DiskLba(pub u32);
 
 // A number of sectors, or none.
-#[derive(Drop)]
+#[derive(Clone, Copy)]
 pub enum MaybeSectors {
     Absent,
     Present(u32),
 }
 
 // A CHS address, or none.
-#[derive(Drop)]
+#[derive(Clone, Copy)]
 pub enum MaybeChs {
     Absent,
     Present(CHS),
 }
 
-#[derive(Drop)]
+#[derive(Clone, Copy)]
 pub struct LogicalPartition {
     pub partition: MBRPartitionEntry,
     pub absolute_ebr_lba: DiskLba,
@@ -46,7 +46,7 @@ pub struct LogicalPartition {
     pub kept: Kept,
 }
 
-#[derive(Drop)]
+#[derive(Clone, Copy)]
 pub struct MBR {
     pub sector_size: u32,
     pub header: MBRHeader,

@@ -17,7 +17,7 @@ use record_entry::MBRPartitionEntry;
 use table::{LogicalPartition, MaybeChs, MaybeSectors};
 
 // A disk's cylinders, heads and sectors in a track.
-#[derive(Drop)]
+#[derive(Clone, Copy)]
 pub struct Geometry {
     pub cylinders: u16,
     pub heads: u8,
@@ -25,14 +25,14 @@ pub struct Geometry {
 }
 
 // A link's last address, if there is a link; or a refusal.
-#[derive(Drop)]
+#[derive(Clone, Copy)]
 pub enum Linked {
     At(MaybeChs),
     Refused(Refusal),
 }
 
 // A logical partition, and what the call says beside it.
-#[derive(Drop)]
+#[derive(Clone, Copy)]
 pub struct Updated {
     pub answer: Answer,
     pub logical: LogicalPartition,

@@ -17,7 +17,7 @@ use record_entry::MBRPartitionEntry;
 use record_mbr::Found;
 use table::LOGICALS;
 
-#[derive(Drop)]
+#[derive(Clone, Copy)]
 pub struct Run {
     pub start: u32,
     pub length: u32,
@@ -26,20 +26,20 @@ pub struct Run {
 // The most runs of a table: 5 between primaries, and one more than there are logical partitions between those.
 pub const RUNS: usize = LOGICALS + 6;
 
-#[derive(Drop)]
+#[derive(Clone, Copy)]
 pub struct Runs {
     pub at: [Run; RUNS],
     pub count: usize,
 }
 
-#[derive(Drop)]
+#[derive(Clone, Copy)]
 pub struct FreeAnswer {
     pub answer: Answer,
     pub runs: Runs,
 }
 
 // What lies between two positions.
-#[derive(Drop)]
+#[derive(Clone, Copy)]
 pub enum Gap {
     Nothing,
     Free(Run),
@@ -47,7 +47,7 @@ pub enum Gap {
 }
 
 // The positions of an entry.
-#[derive(Drop)]
+#[derive(Clone, Copy)]
 pub enum Ends {
     Nothing,
     Two(u32, u32),
@@ -58,7 +58,7 @@ pub enum Ends {
 pub const POINTS: usize = 2 + 2 * LOGICALS;
 
 // The positions of an area, and whether each sum that makes them is in range.
-#[derive(Drop)]
+#[derive(Clone, Copy)]
 pub struct Points {
     pub at: [u32; POINTS],
     pub count: usize,

@@ -22,7 +22,7 @@ pub fn free_into(t: MBR, runs: &mut [Run]) -> RunCount
 }
 
 // The answer, and a list of thirty afterwards.
-#[derive(Drop)]
+#[derive(Clone, Copy)]
 pub struct LentRuns {
     pub answer: RunCount,
     pub runs: [Run; RUNS],

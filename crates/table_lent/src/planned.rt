@@ -9,14 +9,14 @@ use table::MBR;
 use table_free::{RUNS, Run};
 
 // The number of runs found, or a refusal.
-#[derive(Drop)]
+#[derive(Clone, Copy)]
 pub enum RunCount {
     Found(usize),
     Refused(Refusal),
 }
 
 // What is to be answered, how many runs are to be stored, and the runs.
-#[derive(Drop)]
+#[derive(Clone, Copy)]
 pub struct RunPlan {
     pub answer: RunCount,
     pub stores: usize,

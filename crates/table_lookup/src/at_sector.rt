@@ -7,7 +7,7 @@ use base::Refusal;
 use table::MBR;
 
 // A partition's number, none, or a refusal.
-#[derive(Drop)]
+#[derive(Clone, Copy)]
 pub enum AtSector {
     Nothing,
     Number(usize),

@@ -10,21 +10,21 @@ use record_mbr::MBRHeader;
 use table::MBR;
 
 // Does an entry hold a sector?
-#[derive(Drop)]
+#[derive(Clone, Copy)]
 pub enum Holds {
     No,
     Yes,
     Refused(Refusal),
 }
 
-#[derive(Drop)]
+#[derive(Clone, Copy)]
 pub struct Numbered {
     pub number: usize,
     pub entry: MBRPartitionEntry,
 }
 
 // What a search has found so far.
-#[derive(Drop)]
+#[derive(Clone, Copy)]
 pub enum Hit {
     Nothing,
     At(Numbered),

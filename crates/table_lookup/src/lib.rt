@@ -15,7 +15,7 @@ use record_mbr::Found;
 use table::MBR;
 
 // What a partition number names: nothing, a primary by its number from 1 to 4, a logical partition counted from 0.
-#[derive(Drop)]
+#[derive(Clone, Copy)]
 pub enum Kind {
     Nothing,
     Primary(usize),
@@ -23,7 +23,7 @@ pub enum Kind {
 }
 
 // An entry, none, or a refusal.
-#[derive(Drop)]
+#[derive(Clone, Copy)]
 pub enum Got {
     Nothing,
     Entry(MBRPartitionEntry),
@@ -31,14 +31,14 @@ pub enum Got {
 }
 
 // A number of partitions, or a refusal.
-#[derive(Drop)]
+#[derive(Clone, Copy)]
 pub enum Count {
     Is(usize),
     Refused(Refusal),
 }
 
 // A table, and what the call says beside it.
-#[derive(Drop)]
+#[derive(Clone, Copy)]
 pub struct TableAnswer {
     pub answer: Answer,
     pub table: MBR,

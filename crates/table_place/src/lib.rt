@@ -14,7 +14,7 @@ use base::Refusal;
 use table_free::{Run, Runs};
 
 // A place, none, or a refusal.
-#[derive(Drop)]
+#[derive(Clone, Copy)]
 pub enum Place {
     Nowhere,
     At(u32),
@@ -22,14 +22,14 @@ pub enum Place {
 }
 
 // A number of sectors, or a refusal.
-#[derive(Drop)]
+#[derive(Clone, Copy)]
 pub enum Size {
     Sectors(u32),
     Refused(Refusal),
 }
 
 // Which of the runs that are long enough.
-#[derive(Drop)]
+#[derive(Clone, Copy)]
 pub enum Rule {
     First,
     Last,
@@ -37,7 +37,7 @@ pub enum Rule {
 }
 
 // A run, or none.
-#[derive(Drop)]
+#[derive(Clone, Copy)]
 pub enum ChosenRun {
     Nothing,
     Free(Run),

@@ -26,27 +26,27 @@ pub use table_address::four::{update_chs, with_geometry};
 pub use table_address::{Geometry, Updated, is_complete};
 
 // Is the geometry complete? Or a refusal.
-#[derive(Drop)]
+#[derive(Clone, Copy)]
 pub enum Complete {
     Is(bool),
     Refused(Refusal),
 }
 
 // A number of sectors, or a refusal.
-#[derive(Drop)]
+#[derive(Clone, Copy)]
 pub enum CylinderSize {
     Is(u32),
     Refused(Refusal),
 }
 
 // The new partition's number, or a refusal.
-#[derive(Drop)]
+#[derive(Clone, Copy)]
 pub enum PushAnswer {
     Number(usize),
     Refused(Refusal),
 }
 
-#[derive(Drop)]
+#[derive(Clone, Copy)]
 pub struct Pushed {
     pub answer: PushAnswer,
     pub table: MBR,

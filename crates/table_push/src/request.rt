@@ -11,7 +11,7 @@ use record_entry::MBRPartitionEntry;
 use table_address::Geometry;
 
 // What a push asks for.
-#[derive(Drop)]
+#[derive(Clone, Copy)]
 pub struct Request {
     pub align: u32,
     pub geometry: Geometry,
@@ -21,14 +21,14 @@ pub struct Request {
 }
 
 // A new EBR's place and the sectors from there on, both rounded.
-#[derive(Drop)]
+#[derive(Clone, Copy)]
 pub struct EbrPlace {
     pub at: u32,
     pub size: u32,
 }
 
 // A rounded place, or a refusal.
-#[derive(Drop)]
+#[derive(Clone, Copy)]
 pub enum Rounded {
     At(EbrPlace),
     Refused(Refusal),

@@ -18,7 +18,7 @@ use table::{LogicalPartition, MBR};
 use table_lookup::Kind;
 
 // A table, the partition removed from it, and what the call says beside them.
-#[derive(Drop)]
+#[derive(Clone, Copy)]
 pub struct Removal {
     pub answer: Answer,
     pub removed: LogicalPartition,

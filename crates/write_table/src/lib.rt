@@ -27,7 +27,7 @@ use record_mbr::{Found, MBRHeader};
 use table::{LOGICALS, MBR};
 
 // What writing answers: the new extract's length, or the refusal; and the table.
-#[derive(Drop)]
+#[derive(Clone, Copy)]
 pub struct Written {
     pub answer: Laid,
     pub table: MBR,

@@ -1,0 +1,44 @@
+use mathlib.Core.Path.{◌≡◌, sym, ap, ◌∙◌}
+use mathlib.Core.Option.{none, some}
+use native.Mathlib.Omega.{arith}
+use Prim.Native.Nat.{ℕ, ◌+◌, ◌≤◌, ◌<◌}
+use Rattle.extract.specs.Extract.{count, lba_at, disk_sectors}
+use Rattle.extract.specs.ListSpot.{SpotOf}
+use Rattle.extract.specs.declared.ListSpot.TheVariants.{Found, Absent}
+use Rattle.chain.specs.Walk.{place_on, reached_said}
+use Rattle.chain.proofs.Decision.{place_at, place-beyond}
+use Rattle.chain.proofs.Steps.{open-past, lack-past, open-blank, lack-blank, open-number, lack-number}
+use Rattle.chain.proofs.open_at.Goals as goal
+
+pub open_record-requires : goal.open_record-requires
+open_record-requires c =
+    let g : SpotOf c.args.x.now c.args.n c.in-At.at.0 (Found c.in-Found.i) = rw c.in-Found.is at c.seek.ensures in
+    record { n_value = c.requires.n_value; i_lt_n = (g.0, g.1) }
+
+pub returns-in-Beyond : goal.returns-in-Beyond
+returns-in-Beyond c =
+    let a = c.args.base.0 + c.args.rel.0 in
+    let p : none ≡ place_on c.args.d a = sym (ap reached_said c.in-Beyond.is) ∙ c.place.ensures in
+    let h : disk_sectors c.args.x.now ≤ a = omega (arith, place-beyond c.args.d a p, c.requires.d_value) in
+    record { result_value = open-past c.args.x.now a h; result_value_2 = (lack-past c.args.x.now a h, tt) }
+
+pub returns-in-Absent : goal.returns-in-Absent
+returns-in-Absent c =
+    let a = c.args.base.0 + c.args.rel.0 in
+    let p : some c.in-At.at.0 ≡ place_on c.args.d a = sym (ap reached_said c.in-At.is) ∙ c.place.ensures in
+    let k = place_at c.args.d a c.in-At.at.0 p in
+    let h : a < disk_sectors c.args.x.now = omega (arith, k.1, c.requires.d_value) in
+    let g : SpotOf c.args.x.now c.args.n a (Absent c.in-Absent.field-0) = rw (c.in-Absent.is, k.0) at c.seek.ensures in
+    let u : (i : ℕ) → c.in-Absent.field-0 ≤ i → i < count c.args.x.now → a < lba_at c.args.x.now i = λ i u w. g.2 i u (omega (arith, c.requires.n_value.0)) in
+    record { result_value = open-blank c.args.x.now a c.in-Absent.field-0 h g.1 u; result_value_2 = (ap some k.0 ∙ lack-blank c.args.x.now a c.in-Absent.field-0 h g.1 u, tt) }
+
+pub returns-in-Found : goal.returns-in-Found
+returns-in-Found c =
+    let a = c.args.base.0 + c.args.rel.0 in
+    let p : some c.in-At.at.0 ≡ place_on c.args.d a = sym (ap reached_said c.in-At.is) ∙ c.place.ensures in
+    let k = place_at c.args.d a c.in-At.at.0 p in
+    let h : a < disk_sectors c.args.x.now = omega (arith, k.1, c.requires.d_value) in
+    let g : SpotOf c.args.x.now c.args.n a (Found c.in-Found.i) = rw (c.in-Found.is, k.0) at c.seek.ensures in
+    let b : c.in-Found.i < count c.args.x.now = omega (arith, g.0, c.requires.n_value.0) in
+    let m = rw k.0 at c.open_record.ensures in
+    record { result_value = m.0 ∙ open-number c.args.x.now a c.in-Found.i c.requires.n_value.1 h b g.1; result_value_2 = (m.1.0 ∙ lack-number c.args.x.now a c.in-Found.i c.requires.n_value.1 h b g.1, m.1.1) }

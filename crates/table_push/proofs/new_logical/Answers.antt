@@ -25,16 +25,14 @@ placed_logical-requires c =
 pub returns-in-Refused : goal.returns-in-Refused
 returns-in-Refused c =
     let f = answer-refuses (round_checks c.args.q) _ _ (sym c.rounding.ensures ∙ ap rounded_said c.in-Refused.is) in
-    
-let both = push-refuses c.args.q c.args.e c.args.n c.refused.result _ (fails-round c.args.q c.args.e c.args.n _ f) c.refused.ensures in
+    let both = push-refuses c.args.q c.args.e c.args.n c.refused.result _ (fails-round c.args.q c.args.e c.args.n _ f) c.refused.ensures in
     record { answer_value = both.0; logical_value = both.1 }
 
 pub returns-in-Refused-place : goal.returns-in-Refused-place
 returns-in-Refused-place c =
     let r = rounds c.args.q _ (sym c.rounding.ensures ∙ ap rounded_said c.in-At.is) in
     let f = sym c.place_rules-place.ensures ∙ ap refusal c.in-Refused-place.is in
-    
-let both = push-refuses c.args.q c.args.e c.args.n c.refused-in-Refused-place.result _ (fails-place c.args.q c.args.e c.args.n _ r.0 f) c.refused-in-Refused-place.ensures in
+    let both = push-refuses c.args.q c.args.e c.args.n c.refused-in-Refused-place.result _ (fails-place c.args.q c.args.e c.args.n _ r.0 f) c.refused-in-Refused-place.ensures in
     record { answer_value = both.0; logical_value = both.1 }
 
 pub returns-in-Refused-end : goal.returns-in-Refused-end
@@ -42,8 +40,7 @@ returns-in-Refused-end c =
     let r = rounds c.args.q _ (sym c.rounding.ensures ∙ ap rounded_said c.in-At.is) in
     let f = sym c.place_rules-place.ensures ∙ ap refusal c.in-Done.is in
     let g = sym c.end_rules-end.ensures ∙ ap refusal c.in-Refused-end.is in
-    
-let both = push-refuses c.args.q c.args.e c.args.n c.refused-in-Refused-end.result _ (fails-end c.args.q c.args.e c.args.n _ r.0 f g) c.refused-in-Refused-end.ensures in
+    let both = push-refuses c.args.q c.args.e c.args.n c.refused-in-Refused-end.result _ (fails-end c.args.q c.args.e c.args.n _ r.0 f g) c.refused-in-Refused-end.ensures in
     record { answer_value = both.0; logical_value = both.1 }
 
 pub returns-in-Done-end : goal.returns-in-Done-end
@@ -51,6 +48,5 @@ returns-in-Done-end c =
     let r = rounds c.args.q _ (sym c.rounding.ensures ∙ ap rounded_said c.in-At.is) in
     let f = sym c.place_rules-place.ensures ∙ ap refusal c.in-Done.is in
     let g = sym c.end_rules-end.ensures ∙ ap refusal c.in-Done-end.is in
-    
-let both = push-goes-on c.args.q c.args.e c.args.n c.placed_logical.result (fails-rest c.args.q c.args.e c.args.n r.0 f g) c.placed_logical.ensures in
+    let both = push-goes-on c.args.q c.args.e c.args.n c.placed_logical.result (fails-rest c.args.q c.args.e c.args.n r.0 f g) (c.placed_logical.ensures.answer_value, c.placed_logical.ensures.logical_value) in
     record { answer_value = both.0; logical_value = both.1 }

@@ -18,7 +18,7 @@ returns-then-n-gt-LOGICALS c =
 
 pub append-requires : goal.append-requires
 append-requires c =
-    (push-gives (request_of c.args.t c.args.sys c.args.starting_lba c.args.sectors) c.in-Entry.e c.args.t.count c.new_logical-u.result c.new_logical-u.ensures (ap refusal c.in-Done.is)).2
+    (push-gives (request_of c.args.t c.args.sys c.args.starting_lba c.args.sectors) c.in-Entry.e c.args.t.count c.new_logical-u.result (c.new_logical-u.ensures.answer_value, c.new_logical-u.ensures.logical_value) (ap refusal c.in-Done.is)).2
 
 pub returns-in-Nothing : goal.returns-in-Nothing
 returns-in-Nothing c =
@@ -36,6 +36,6 @@ returns-in-Refused c =
 pub returns-in-Done : goal.returns-in-Done
 returns-in-Done c =
     let x = sym c.get_extended_partition.ensures ∙ ap found c.in-Entry.is in
-    let m = push-gives (request_of c.args.t c.args.sys c.args.starting_lba c.args.sectors) c.in-Entry.e c.args.t.count c.new_logical-u.result c.new_logical-u.ensures (ap refusal c.in-Done.is) in
+    let m = push-gives (request_of c.args.t c.args.sys c.args.starting_lba c.args.sectors) c.in-Entry.e c.args.t.count c.new_logical-u.result (c.new_logical-u.ensures.answer_value, c.new_logical-u.ensures.logical_value) (ap refusal c.in-Done.is) in
     let z = push-done c.args.t c.args.sys c.args.starting_lba c.args.sectors c.if-n-gt-LOGICALS.false _ x m.0 in
     record { answer_value = c.append.ensures.0 ∙ sym z.0; table_value = c.append.ensures.1 ∙ ap (λ (m : LogicalPartition). with_logicals c.args.t (set c.args.t.logical_partitions c.args.t.count m) (c.args.t.count + 1)) m.1 ∙ sym z.1 }

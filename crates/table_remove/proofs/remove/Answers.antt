@@ -1,6 +1,7 @@
 use borrow.Author.Tests.{lt-leb, le-leb, lt-ltb, le-ltb}
 use mathlib.Core.Path.{sym, ◌∙◌}
 use Rattle.table_lookup.proofs.Decision.{names, not-logical}
+use borrow.Enum.Refused.{opened}
 use Rattle.table_remove.proofs.remove.Goals as goal
 
 pub returns-then-n-gt-LOGICALS : goal.returns-then-n-gt-LOGICALS
@@ -11,7 +12,7 @@ returns-then-n-gt-LOGICALS c =
 pub returns-in_default : goal.returns-in_default
 returns-in_default c =
     let f₁ = le-leb _ _ c.if-n-gt-LOGICALS.false in
-    let f₂ = lt-leb _ _ (not-logical c.args.number _ (sym c.kind_of.ensures) c.in_default.in_default-own.keys2) in
+    let f₂ = lt-leb _ _ (not-logical c.args.number _ (sym c.kind_of.ensures) (opened c.in_default.in_default-own.keys2)) in
     record { answer_value = c.keep-in_default.ensures.0 ∙ rw (f₁, f₂); removed_value = c.keep-in_default.ensures.1 ∙ rw (f₁, f₂); table_value = c.keep-in_default.ensures.2 ∙ rw (f₁, f₂) }
 
 pub returns-then-n-k : goal.returns-then-n-k

@@ -25,9 +25,10 @@ returns-in-Refused c =
 pub returns-else-n-ge-LOGICALS : goal.returns-else-n-ge-LOGICALS
 unfolding geometry_checks new_logical
 returns-else-n-ge-LOGICALS c =
+    let l = c.fresh_logical-l.result in
     let d = ap refusal c.in-Done.is in
     let f = sym c.with_geometry-u.ensures.answer_value ∙ d in
-    let o = ap (λ (c.fresh_logical-l.result : LogicalPartition). first-fail (slot_geometry c.args.q.geometry c.fresh_logical-l.result)) (sym c.fresh_logical-l.ensures) ∙ f in
-    let m = c.with_geometry-u.ensures.logical_value ∙ checked-none (slot_geometry c.args.q.geometry c.fresh_logical-l.result) (λ _. c.fresh_logical-l.result) (by_geometry c.args.q.geometry c.fresh_logical-l.result) f ∙ ap (by_geometry c.args.q.geometry) c.fresh_logical-l.ensures in
+    let o = ap (λ (l : LogicalPartition). first-fail (slot_geometry c.args.q.geometry l)) (sym c.fresh_logical-l.ensures) ∙ f in
+    let m = c.with_geometry-u.ensures.logical_value ∙ checked-none (slot_geometry c.args.q.geometry l) (λ _. l) (by_geometry c.args.q.geometry l) f ∙ ap (by_geometry c.args.q.geometry) c.fresh_logical-l.ensures in
     let both = placed-gives c.args.q c.args.n c.with_geometry-u.result (fails-none c.args.q c.args.n o c.if-n-ge-LOGICALS.false) d m in
     record { answer_value = both.0; logical_value = both.1 }

@@ -12,4 +12,4 @@ pub returns : goal.returns
 unfolding end
 returns c =
     let f₁ = sym c.is_vacant.ensures ∙ c.if-is_vacant.false in
-    rw (f₁) c.end_of_lem.ensures
+    rw (f₁) c.end_of.ensures

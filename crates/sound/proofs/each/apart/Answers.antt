@@ -16,12 +16,12 @@ pub returns-then-end_of-f : goal.returns-then-end_of-f
 returns-then-end_of-f c =
     let f₁ = ne_eqb _ _ c.if-e-eq0.false in
     let f₂ = ne_eqb _ _ c.if-f-eq0.false in
-    let f₃ = le-leb _ _ (rw c.end_of_lem.ensures at c.if-end_of-f.true) in
+    let f₃ = le-leb _ _ (rw c.end_of.ensures at c.if-end_of-f.true) in
     rw (f₁, f₂, f₃)
 
 pub returns : goal.returns
 returns c =
     let f₁ = ne_eqb _ _ c.if-e-eq0.false in
     let f₂ = ne_eqb _ _ c.if-f-eq0.false in
-    let f₃ = lt-leb _ _ (rw c.end_of_lem.ensures at c.if-end_of-f.false) in
+    let f₃ = lt-leb _ _ (rw c.end_of.ensures at c.if-end_of-f.false) in
     rw (f₁, f₂, f₃, c.end_of-2.ensures)

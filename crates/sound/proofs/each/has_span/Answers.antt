@@ -20,4 +20,4 @@ unfolding spanb
 returns c =
     let f₁ = le-leb _ _ c.if-e-lt1.false in
     let f₂ = le-leb _ _ c.if-e-lt1-2.false in
-    rw (f₁, f₂, c.end_of_lem.ensures)
+    rw (f₁, f₂, c.end_of.ensures)

@@ -40,5 +40,5 @@ returns-in-Found c =
     let h : a < disk_sectors c.args.x.now = omega (arith, k.1, c.requires.d_value) in
     let g : SpotOf c.args.x.now c.args.n a (Found c.in-Found.i) = rw (c.in-Found.is, k.0) at c.seek.ensures in
     let b : c.in-Found.i < count c.args.x.now = omega (arith, g.0, c.requires.n_value.0) in
-    let m = rw k.0 at c.open_record.ensures in
-    record { result_value = m.0 ∙ open-number c.args.x.now a c.in-Found.i c.requires.n_value.1 h b g.1; result_value_2 = (m.1.0 ∙ lack-number c.args.x.now a c.in-Found.i c.requires.n_value.1 h b g.1, m.1.1) }
+    let m = rw k.0 at c.open_record.ensures.result_value_2 in
+    record { result_value = c.open_record.ensures.result_value ∙ open-number c.args.x.now a c.in-Found.i c.requires.n_value.1 h b g.1; result_value_2 = (m.0 ∙ lack-number c.args.x.now a c.in-Found.i c.requires.n_value.1 h b g.1, m.1) }

@@ -8,7 +8,7 @@ use Rattle.base.specs.Checks.{◌!◌, checked, answer}
 use Rattle.base.specs.All.{allb}
 use Rattle.record_entry.specs.declared.MBRPartitionEntry.{MBRPartitionEntry}
 use Rattle.record_entry.specs.Entry.{used}
-use Rattle.record_mbr.specs.Mbr.{primaries, extended_of}
+use Rattle.record_mbr.specs.Mbr.{primaries}
 use Rattle.table.specs.declared.LogicalPartition.{LogicalPartition}
 use Rattle.table.specs.declared.MBR.{MBR}
 use Rattle.table.specs.Table.{count_check, most, logicals, extended_in, rounded}

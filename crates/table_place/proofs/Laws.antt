@@ -1,16 +1,16 @@
 -- Laws of places and sizes: the steps of the searches over runs. Assumes nothing.
 use mathlib.Core.Path.{◌≡◌, refl, sym, ap, ◌∙◌}
-use mathlib.Core.List.{List, [], ◌∷◌, ◌++◌}
+use mathlib.Core.List.{List, [], ◌∷◌}
 use mathlib.Core.Bool.{Bool, true, false}
 use mathlib.Core.Option.{Option, none, some}
-use Prim.Native.Nat.{ℕ, zero, suc, ◌+◌, ◌-◌, ◌*◌, ◌/◌, ◌≤◌, ◌<◌, max}
+use Prim.Native.Nat.{ℕ, suc, ◌+◌, ◌*◌, ◌/◌, ◌≤◌, ◌<◌, max}
 use native.Mathlib.Numerals.{add-one}
 use native.Mathlib.Omega.{arith}
 use native.Mathlib.Decide.{dec_lt}
-use lib.Dec.{ltb, leb, eqb}
+use lib.Dec.{ltb, leb}
 use lib.ListN.{length, take, drop, get_or, drop_of_length-le}
 use lib.Seq.{drop-cons, length-take-le, get_or-take}
-use borrow.Author.Tests.{lt-ltb, le-ltb, lt-leb, le-leb, leb-true, leb-false, eqb-true, eq-eqb, ne_eqb}
+use borrow.Author.Tests.{lt-ltb, le-ltb, lt-leb, le-leb, leb-true, leb-false, eq-eqb, ne_eqb}
 use Rattle.base.specs.Pick.{pick}
 use Rattle.base.specs.Said.{Said, gives, refuses, and_then, refusal_of}
 use Rattle.base.proofs.Readings.{undone-injective, from_said, from_option}
@@ -36,7 +36,7 @@ use Rattle.table_place.specs.declared.Rule.{Rule}
 use Rattle.table_place.specs.declared.Rule.TheVariants.{First, Last, Smallest}
 use Rattle.table_place.specs.declared.ChosenRun.{ChosenRun}
 use Rattle.table_place.specs.declared.ChosenRun.TheVariants.{Nothing, Free}
-use Rattle.table_place.specs.Place.{place_said, size_said, spotted, roomy, first_run, last_run, smaller, smallest_of, chosen, prefer, preferred, start_of, rightmost, start_by, last_by, largest, or_sixteen, size_by, length_at, grown, grown_by, growth, maximum_for}
+use Rattle.table_place.specs.Place.{place_said, size_said, spotted, roomy, last_run, smaller, smallest_of, chosen, prefer, preferred, start_of, rightmost, start_by, last_by, largest, or_sixteen, size_by, length_at, grown, grown_by, growth, maximum_for}
 
 -- what an answer says determines it
 pub place-injective : (a b : Place) → place_said a ≡ place_said b → a ≡ b

@@ -1,6 +1,5 @@
 use Rattle.table_free.proofs.Laws.{closed-far, closed-near}
 use lib.ListN.{length}
-use Prim.Native.Nat.{◌-◌}
 use mathlib.Core.Path.{◌≡◌}
 use native.Mathlib.Omega.{arith}
 use borrow.Author.Rules.{rules}

@@ -5,7 +5,7 @@ use Rattle.table_free.specs.declared.Gap.{Gap}
 use Rattle.base.specs.Said.{gives, refuses, failure, value_or}
 use Rattle.table_free.specs.Free.{runs_in, joined, runs_among, gap_said}
 use lib.ListN.{drop}
-use Prim.Native.Nat.{◌+◌, ◌-◌}
+use Prim.Native.Nat.{◌+◌}
 use mathlib.Core.List.{List, [], ◌++◌, append-nil}
 use mathlib.Core.Path.{refl, sym, ap, ◌∙◌}
 use native.Mathlib.Omega.{arith}

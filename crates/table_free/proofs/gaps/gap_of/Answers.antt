@@ -1,5 +1,4 @@
 use Rattle.table_free.proofs.Laws.{gap-equal, gap-next, gap-far, gap-gone, gap-free, step_in}
-use Prim.Native.Nat.{◌-◌}
 use mathlib.Core.Path.{sym}
 use native.Mathlib.Omega.{arith}
 use borrow.Author.Rules.{rules}

@@ -3,7 +3,7 @@ use Rattle.table_free.specs.Free.{logical_zones, more, points_said}
 use Rattle.base.specs.Said.{Said}
 use Rattle.table.specs.Table.{most}
 use lib.ListN.{length, take}
-use Prim.Native.Nat.{ℕ, ◌-◌, ◌≤◌}
+use Prim.Native.Nat.{ℕ, ◌≤◌}
 use mathlib.Core.List.{List}
 use mathlib.Core.Path.{◌≡◌, refl, sym, ap, ◌∙◌}
 use native.Mathlib.Omega.{arith}
@@ -23,15 +23,13 @@ with-p-requires c =
 
 pub loop-i-preserved : goal.loop-i-preserved
 loop-i-preserved c =
-    let long : length c.args.ls ≡ most =
-        c.type_inv.1.0.1.0.1 in
+    let long : length c.args.ls ≡ most = search rules in
     let k : c.args.count ≤ length c.args.ls = omega (arith, long, c.requires) in
     (search rules, (omega (arith, c.loop-i.invariant.1.0, c.with-p.ensures.1), c.loop-i.invariant.1.1 ∙ logical-on c.args.ls c.args.count c.loop-i.i k c.loop-i-test.true (points_said c.loop-i.p) (points_said c.with-p.result) c.with-p.ensures.0))
 
 pub returns : goal.returns
 returns c =
-    let long : length c.args.ls ≡ most =
-        c.type_inv.1.0.1.0.1 in
+    let long : length c.args.ls ≡ most = search rules in
     let k : c.args.count ≤ length c.args.ls = omega (arith, long, c.requires) in
     let v = sym (c.loop-i.invariant.1.1 ∙ logical-end c.args.ls c.args.count c.loop-i.i k c.loop-i-test.false (points_said c.loop-i.p)) in
     (v ∙ ap (λ (u : Said (List ℕ)). more u (logical_zones (take c.args.count c.args.ls))) c.from-p.ensures.0, omega (arith, c.loop-i.invariant.1.0, c.loop-i.invariant.0, c.requires))

@@ -1,7 +1,6 @@
 use Rattle.table_free.specs.Free.{primary_zones}
 use Rattle.table_free.proofs.Laws.{more-on, closed_on, primary-steps, positions-steps}
 use Rattle.base.specs.Said.{gives}
-use Prim.Native.Nat.{◌-◌}
 use mathlib.Core.List.{[], ◌∷◌}
 use mathlib.Core.Path.{◌∙◌}
 use native.Mathlib.Omega.{arith}

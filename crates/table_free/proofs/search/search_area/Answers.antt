@@ -1,10 +1,11 @@
+use borrow.Author.Tests.{not-true, not-false}
 use Rattle.table_free.proofs.Laws.{told_same, told-empty, sorted-length, view_out, view_in}
 use Rattle.table_free.specs.Free.{runs_in, joined, runs_among, most_points}
 use lib.Seq.{take_at, length-take-le}
 use lib.ListN.{take, drop, length-append}
 use Rattle.base.specs.Said.{refuses}
 use lib.ListN.{length}
-use Prim.Native.Nat.{ℕ, ◌+◌, ◌-◌, ◌≤◌}
+use Prim.Native.Nat.{ℕ, ◌≤◌}
 use mathlib.Core.List.{List, ◌++◌}
 use mathlib.Core.Path.{◌≡◌, sym, ap, ◌∙◌}
 use native.Mathlib.Omega.{arith}
@@ -13,7 +14,7 @@ use Rattle.table_free.proofs.search.search_area.Goals as goal
 
 pub returns-then-not-p : goal.returns-then-not-p
 returns-then-not-p c =
-    let e = view_out c.args.p c.args.align (runs_in c.args.x) (c.if-not-p.true) in
+    let e = view_out c.args.p c.args.align (runs_in c.args.x) (not-true c.args.p.fits c.if-not-p.true) in
     (told_same c.refused.result (refuses 7) _ (sym e) c.refused.ensures, omega (arith, told-empty c.refused.result 7 c.refused.ensures))
 
 pub slice_bounds-at-end : goal.slice_bounds-at-end
@@ -66,5 +67,5 @@ returns c =
     let k : take c.args.p.count (w ++ drop c.args.p.count c.args.p.at) ≡ w = take_at w (drop c.args.p.count c.args.p.at) c.args.p.count l in
     let f = k ∙ c.sort.ensures in
     let v = take c.args.p.count (w ++ drop c.args.p.count c.args.p.at) in
-    let e = view_in c.args.p c.args.align (runs_in c.args.x) v (c.if-not-p.false) f in
+    let e = view_in c.args.p c.args.align (runs_in c.args.x) v (not-false c.args.p.fits c.if-not-p.false) f in
     (told_same c.collect.result (joined (runs_in c.args.x) (runs_among c.args.align v)) _ e c.collect.ensures.0, omega (arith, c.collect.ensures.1, ap length k, l))

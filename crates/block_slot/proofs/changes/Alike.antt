@@ -6,7 +6,7 @@ use Prim.Native.Nat.{ℕ, zero, suc, ◌+◌, ◌-◌, ◌*◌, ◌≤◌, ◌<�
 use native.Mathlib.Omega.{arith}
 use lib.ListN.{length, get_or}
 use lib.Seq.{ext_get_or}
-use Rattle.base.specs.Bytes.{bytes_at, number, little}
+use Rattle.base.specs.Bytes.{number, little}
 use Rattle.base.specs.Said.{gives, refuses}
 use Rattle.base.specs.Checks.{answer}
 use Rattle.base.proofs.Checks.{checked-none}

@@ -2,7 +2,6 @@
 // Scope: modules 1 to 3, run and compared; the cases stand on standard input, second/answers.py has their commands.
 #![tactic(auto)]
 
-
 fn main() {
     let mut text = case_show::lent::text_buffer();
     let mut x = io::large_buffer();

@@ -98,12 +98,8 @@ returns-in-Found c =
     let inside : c.args.lba < disk_sectors c.args.x.now =
         rw told.1 at c.if-e-lba.false in
     let g = told.0 in
-let both = 
-        let i = inside in (
-      on-said c.args.x.now c.args.lba c.args.sector.now c.args.out.now g c.if-sector-ne512.false i _ c.lay_at.ensures.said,
-      on-left c.args.x.now c.args.lba c.args.sector.now c.args.out.now g c.if-sector-ne512.false i _ c.lay_at.ensures.left,
-    ) in
-    record { said = both.0; left = both.1 }
+    let i = inside in
+    record { said = on-said c.args.x.now c.args.lba c.args.sector.now c.args.out.now g c.if-sector-ne512.false i _ c.lay_at.ensures.said; left = on-left c.args.x.now c.args.lba c.args.sector.now c.args.out.now g c.if-sector-ne512.false i _ c.lay_at.ensures.left }
 
 pub returns-in-Absent : goal.returns-in-Absent
 returns-in-Absent c =
@@ -112,9 +108,5 @@ returns-in-Absent c =
     let inside : c.args.lba < disk_sectors c.args.x.now =
         rw told.1 at c.if-e-lba.false in
     let g = told.0 in
-let both = 
-        let i = inside in (
-      on-said c.args.x.now c.args.lba c.args.sector.now c.args.out.now g c.if-sector-ne512.false i _ c.lay_at-in-Absent.ensures.said,
-      on-left c.args.x.now c.args.lba c.args.sector.now c.args.out.now g c.if-sector-ne512.false i _ c.lay_at-in-Absent.ensures.left,
-    ) in
-    record { said = both.0; left = both.1 }
+    let i = inside in
+    record { said = on-said c.args.x.now c.args.lba c.args.sector.now c.args.out.now g c.if-sector-ne512.false i _ c.lay_at-in-Absent.ensures.said; left = on-left c.args.x.now c.args.lba c.args.sector.now c.args.out.now g c.if-sector-ne512.false i _ c.lay_at-in-Absent.ensures.left }

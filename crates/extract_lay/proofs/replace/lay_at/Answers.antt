@@ -22,7 +22,4 @@ returns-then-out-total c =
 
 pub returns : goal.returns
 returns c =
-    (
-      room-said c.args.x.now c.args.e c.args.p c.args.q c.args.lba c.args.sector.now c.requires c.args.out.now c.if-m-gt-RECORDS.false c.if-out-total.false,
-      room-left c.args.x.now c.args.e c.args.p c.args.q c.args.lba c.args.sector.now c.requires c.args.out.now _ c.if-m-gt-RECORDS.false c.if-out-total.false c.put_extract.ensures,
-    )
+    record { said = room-said c.args.x.now c.args.e c.args.p c.args.q c.args.lba c.args.sector.now c.requires c.args.out.now c.if-m-gt-RECORDS.false c.if-out-total.false; left = room-left c.args.x.now c.args.e c.args.p c.args.q c.args.lba c.args.sector.now c.requires c.args.out.now _ c.if-m-gt-RECORDS.false c.if-out-total.false c.put_extract.ensures }

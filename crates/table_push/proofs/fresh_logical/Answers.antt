@@ -1,0 +1,6 @@
+use Rattle.table_push.specs.Push.{fresh}
+use Rattle.table_push.proofs.fresh_logical.Goals as goal
+
+pub returns : goal.returns
+unfolding fresh
+returns c = rw (← c.requires.0, ← c.requires.1, c.empty-none.ensures, c.empty-kept.ensures, c.link_sectors-sectors.ensures, c.no_link_last-last.ensures)

@@ -1,8 +1,7 @@
 -- The numbers of a table by value fit a block's fields. Assumes nothing.
-use mathlib.Core.Path.{sym, ◌∙◌}
-use mathlib.Core.List.{List, [], ◌∷◌, map}
+use mathlib.Core.List.{List, [], ◌∷◌}
 use native.Mathlib.Omega.{arith}
-use lib.ListN.{length-map}
+use borrow.Author.Rules.{rules}
 use mir.Val.{Val}
 use denote.Array.{each}
 use denote.Shadow.{shadow}
@@ -11,7 +10,7 @@ use Rattle.record_entry.specs.contracts.MBRPartitionEntry.{the_field as entryFie
 use Rattle.record_mbr.specs.contracts.MBRHeader.{the_field as headerField}
 use Rattle.table.specs.contracts.MaybeSectors.{the_field as sectorsField}
 use Rattle.table.specs.contracts.MaybeChs.{the_field as lastField}
-use Rattle.table.specs.contracts.LogicalPartition.{the_field as slotField}
+use Rattle.table.specs.contracts.LogicalPartition.{the_field as slotField, the_row as slotRow}
 use Rattle.record_entry.specs.declared.MBRPartitionEntry.{MBRPartitionEntry}
 use Rattle.record_mbr.specs.declared.MBRHeader.{MBRHeader}
 use Rattle.table.specs.declared.MaybeSectors.{MaybeSectors}
@@ -45,24 +44,24 @@ slot-fits l us g = record {
   first = omega (arith, g.1.1.1.1.1.0);
   last = last_fits l.ebr_last_chs _ g.1.1.1.1.1.1.0;
   kept = record {
-    code = sym (length-map l.kept.bootstrap_code _) ∙ g.1.1.1.1.1.1.1.0.1.1.0.1.0.1;
-    mark = sym (length-map l.kept.mark _) ∙ g.1.1.1.1.1.1.1.0.1.1.1.0.1.0.1;
+    code = search rules;
+    mark = search rules;
   };
 }
 
-pub slots-fit : (ls : List LogicalPartition) (us : List Val) → shadow (each slotField.row.Denot slotField.row.own_val (map slotField.into ls) us) → SlotsFit ls
+pub slots-fit : (ls : List LogicalPartition) (us : List Val) → shadow (each slotRow.Denot slotRow.own_val ls us) → SlotsFit ls
 slots-fit [] us g = tt
 slots-fit (l ∷ ls) [] g = absurd g
 slots-fit (l ∷ ls) (u ∷ us) g = (slot-fits l (u ∷ []) g.0, slots-fit ls us g.1)
 
 pub header-fits : (h : MBRHeader) (us : List Val) → Known headerField h us → HeaderFits h
 header-fits h us g = record {
-  code = sym (length-map h.bootstrap_code _) ∙ g.1.1.0.1.0.1;
-  disk = sym (length-map h.disk_signature _) ∙ g.1.1.1.0.1.0.1;
-  mark = sym (length-map h.copy_protected _) ∙ g.1.1.1.1.0.1.0.1;
+  code = search rules;
+  disk = search rules;
+  mark = search rules;
   one = entry-fits h.partition_1 _ g.1.1.1.1.1.0;
   two = entry-fits h.partition_2 _ g.1.1.1.1.1.1.0;
   three = entry-fits h.partition_3 _ g.1.1.1.1.1.1.1.0;
   four = entry-fits h.partition_4 _ g.1.1.1.1.1.1.1.1.0;
-  sign = sym (length-map h.boot_signature _) ∙ g.1.1.1.1.1.1.1.1.1.0.1.0.1;
+  sign = search rules;
 }

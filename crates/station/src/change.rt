@@ -3,12 +3,13 @@ use careful_push::Changed;
 use station_disk::{first_sector, gather, open, other_size};
 use station_stores::{output, put, save, store};
 use station_words::{errors, slices};
+use std::fs::File;
 use table_push::Request;
 
 // Where a change works: an open disk, its sector size and whether the operator named it, and whether the change is only shown.
 #[derive(Clone, Copy)]
-struct Target {
-    fd: i32,
+struct Target<'a> {
+    disk: &'a File,
     sector: u32,
     named: bool,
     dry: bool,
@@ -24,36 +25,42 @@ pub struct Wish {
 }
 
 // The last word on standard output: it is done, or it failed.
-pub fn end(good: bool) {
+pub fn end(rt: &HostRuntime, good: bool) {
     if !good {
-        io::write_all(1, b"failed\n");
+        let _ = rt.write_all(b"failed\n");
         return;
     }
-    if !io::write_all(1, b"done\n") {
-        errors::failed(b"the word done cannot be written on standard output: list the disk");
+    if rt.write_all(b"done\n").is_err() {
+        errors::failed(
+            rt,
+            b"the word done cannot be written on standard output: list the disk",
+        );
     }
 }
 
 // Are the records that the change rests on still those that were read?
-fn is_unchanged(t: Target, x: &[u8]) -> bool {
+fn is_unchanged(rt: &HostRuntime, t: Target<'_>, x: &[u8]) -> bool {
     let mut y = [0u8; extract::LARGEST];
-    let n = gather::gather(t.fd, t.sector, &mut y);
+    let n = gather::gather(t.disk, t.sector, &mut y);
     if slices::same(slices::part(&y, n), x) {
         return true;
     }
-    errors::failed(b"the disk was changed meanwhile by another program; nothing was stored");
+    errors::failed(
+        rt,
+        b"the disk was changed meanwhile by another program; nothing was stored",
+    );
     false
 }
 
 // The stores on the disk, if the extract was kept and is still the disk's.
-fn is_stored(t: Target, x: &[u8], out: &[u8], n: usize) -> bool {
-    if !save::save(x) {
+fn is_stored(rt: &HostRuntime, t: Target<'_>, x: &[u8], out: &[u8], n: usize) -> bool {
+    if !save::save(rt, x) {
         return false;
     }
-    if !is_unchanged(t, x) {
+    if !is_unchanged(rt, t, x) {
         return false;
     }
-    put::put_all(t.fd, t.sector, out, n)
+    put::put_all(rt, t.disk, t.sector, out, n)
 }
 
 // The number that the new partition of a push gets: it stands behind all up to the last EBR at or below its own.
@@ -64,43 +71,44 @@ fn number_of(x: &[u8], out: &[u8]) -> usize {
 }
 
 // The last words: after a push the new partition's number, then that it is done.
-fn close(pushes: bool, x: &[u8], out: &[u8]) {
+fn close(rt: &HostRuntime, pushes: bool, x: &[u8], out: &[u8]) {
     if pushes {
-        io::write_all(1, b"number ");
-        io::print_decimal(1, number_of(x, out) as u64);
-        io::write_all(1, b"\n");
+        let _ = rt.write_all(b"number ");
+        let number = number_of(x, out);
+        let _ = print!(rt; "{number}");
+        let _ = rt.write_all(b"\n");
     }
-    end(true);
+    end(rt, true);
 }
 
 // The stores that a change answered with, put on the disk or shown.
-fn is_carried_out(t: Target, x: &[u8], out: &[u8], n: usize) -> bool {
+fn is_carried_out(rt: &HostRuntime, t: Target<'_>, x: &[u8], out: &[u8], n: usize) -> bool {
     if t.dry {
-        return output::show_change(x, out, n);
+        return output::show_change(rt, x, out, n);
     }
-    is_stored(t, x, out, n)
+    is_stored(rt, t, x, out, n)
 }
 
 // The change that was answered, and the last words.
-fn carry_out(t: Target, pushes: bool, x: &[u8], out: &[u8], n: usize) {
-    if is_carried_out(t, x, out, n) {
-        return close(pushes, x, out);
+fn carry_out(rt: &HostRuntime, t: Target<'_>, pushes: bool, x: &[u8], out: &[u8], n: usize) {
+    if is_carried_out(rt, t, x, out, n) {
+        return close(rt, pushes, x, out);
     }
-    end(false);
+    end(rt, false);
 }
 
-fn end_refused(n: u8) {
-    io::write_all(1, b"refused ");
-    io::print_decimal(1, n as u64);
-    io::write_all(1, b"\n");
+fn end_refused(rt: &HostRuntime, n: u8) {
+    let _ = rt.write_all(b"refused ");
+    let _ = print!(rt; "{n}");
+    let _ = rt.write_all(b"\n");
 }
 
-fn answer(t: Target, pushes: bool, c: Changed, x: &[u8], out: &[u8]) {
+fn answer(rt: &HostRuntime, t: Target<'_>, pushes: bool, c: Changed, x: &[u8], out: &[u8]) {
     match c {
-        Changed::Stores(n) => carry_out(t, pushes, x, out, n),
+        Changed::Stores(n) => carry_out(rt, t, pushes, x, out, n),
         Changed::Refused(n) => {
-            errors::refused(n.number);
-            end_refused(n.number);
+            errors::refused(rt, n.number);
+            end_refused(rt, n.number);
         }
     }
 }
@@ -115,73 +123,76 @@ fn changed(w: Wish, x: &[u8], out: &mut [u8]) -> Changed {
 }
 
 // The change of a table whose extract was collected.
-fn on_extract(t: Target, w: Wish, x: &[u8]) {
+fn on_extract(rt: &HostRuntime, t: Target<'_>, w: Wish, x: &[u8]) {
     let mut out = [0u8; careful_stores::push_stores::STORES];
     let c = changed(w, x, &mut out);
-    answer(t, !w.removes, c, x, &out);
+    answer(rt, t, !w.removes, c, x, &out);
 }
 
 // May the extended partition's first sector be written over? A boot record there is read, and nothing is lost with zeros.
-fn may_overwrite(w: Wish, x: &[u8]) -> bool {
+fn may_overwrite(rt: &HostRuntime, w: Wish, x: &[u8]) -> bool {
     if first_sector::state(x) != first_sector::OTHER {
         return true;
     }
-    first_sector::show_other(x);
+    first_sector::show_other(rt, x);
     if w.removes {
         return true;
     }
     if w.overwrite {
         return true;
     }
-    errors::failed(b"a push would overwrite it: keep an image first; --overwrite-first goes on");
+    errors::failed(
+        rt,
+        b"a push would overwrite it: keep an image first; --overwrite-first goes on",
+    );
     false
 }
 
 // The change of a disk whose extract was collected, if nothing speaks against it.
-fn judged(t: Target, w: Wish, x: &[u8]) {
-    if !other_size::holds(t.fd, t.sector, t.named, x) {
-        return end(false);
+fn judged(rt: &HostRuntime, t: Target<'_>, w: Wish, x: &[u8]) {
+    if !other_size::holds(rt, t.disk, t.sector, t.named, x) {
+        return end(rt, false);
     }
-    first_sector::show_guid(x);
-    if !may_overwrite(w, x) {
-        return end(false);
+    first_sector::show_guid(rt, x);
+    if !may_overwrite(rt, w, x) {
+        return end(rt, false);
     }
-    on_extract(t, w, x);
+    on_extract(rt, t, w, x);
 }
 
 // The change of an open disk.
-fn on_open(t: Target, w: Wish) {
+fn on_open(rt: &HostRuntime, t: Target<'_>, w: Wish) {
     let mut x = [0u8; extract::LARGEST];
-    let n = gather::gather(t.fd, t.sector, &mut x);
+    let n = gather::gather(t.disk, t.sector, &mut x);
     if gather::is_whole(n) {
-        return judged(t, w, slices::part(&x, n));
+        return judged(rt, t, w, slices::part(&x, n));
     }
-    gather::tell(n);
+    gather::tell(rt, n);
     if gather::is_refused(n) {
-        return end_refused(1);
+        return end_refused(rt, 1);
     }
-    end(false);
+    end(rt, false);
 }
 
-fn opened(dry: bool) -> i32 {
+fn opened(rt: &HostRuntime, dry: bool) -> Option<File> {
     if dry {
-        return open::to_read();
+        return open::to_read(rt);
     }
-    open::to_change()
+    open::to_change(rt)
 }
 
 // The change of the disk, or the change shown.
-pub fn on_disk(sector: u32, named: bool, dry: bool, w: Wish) {
-    let fd = opened(dry);
-    if fd < 0 {
-        return end(false);
+pub fn on_disk(rt: &HostRuntime, sector: u32, named: bool, dry: bool, w: Wish) {
+    match opened(rt, dry) {
+        None => end(rt, false),
+        Some(disk) => {
+            let t = Target {
+                disk: &disk,
+                sector: sector,
+                named: named,
+                dry: dry,
+            };
+            on_open(rt, t, w);
+        }
     }
-    let t = Target {
-        fd: fd,
-        sector: sector,
-        named: named,
-        dry: dry,
-    };
-    on_open(t, w);
-    libc::close(fd);
 }

@@ -9,72 +9,71 @@ use base::Answer;
 use station_disk::{first_sector, gather, open, other_size};
 use station_stores::output;
 use station_words::{args, errors, help, options, size, slices, wrong};
+use std::fs::File;
 
 // What the listing does not say.
-fn warn(x: &[u8]) {
-    first_sector::show_guid(x);
+fn warn(rt: &HostRuntime, x: &[u8]) {
+    first_sector::show_guid(rt, x);
     if first_sector::state(x) == first_sector::OTHER {
-        first_sector::show_other(x);
+        first_sector::show_other(rt, x);
     }
 }
 
 // The listing, or the refusal on standard error.
-fn list(x: &[u8]) {
+fn list(rt: &HostRuntime, x: &[u8]) {
     let r = read_table::read_from(x);
     let answer = r.answer;
     match answer {
         Answer::Done => {
-            warn(x);
-            output::show_listing(x);
+            warn(rt, x);
+            let _ = output::show_listing(rt, x);
         }
-        Answer::Refused(r) => errors::refused(r.number),
+        Answer::Refused(r) => errors::refused(rt, r.number),
     }
 }
 
 // Collects the extract of an open disk and, if no other sector size speaks against it, lists it or writes it out.
-fn on_open(fd: i32, sector: u32, whole: bool) {
+fn on_open(rt: &HostRuntime, disk: &File, sector: u32, whole: bool) {
     let mut space = [0u8; extract::LARGEST];
-    let n = gather::gather(fd, sector, &mut space);
+    let n = gather::gather(disk, sector, &mut space);
     if !gather::is_whole(n) {
-        return gather::tell(n);
+        return gather::tell(rt, n);
     }
     let x = slices::part(&space, n);
-    if !other_size::holds(fd, sector, size::is_named(3), x) {
+    if !other_size::holds(rt, disk, sector, size::is_named(rt, 3), x) {
         return;
     }
     if whole {
-        output::show(x);
+        let _ = output::show(rt, x);
         return;
     }
-    list(x);
+    list(rt, x);
 }
 
-fn on_disk(sector: u32, whole: bool) {
-    let fd = open::to_read();
-    if fd < 0 {
-        return;
+fn on_disk(rt: &HostRuntime, sector: u32, whole: bool) {
+    if let Some(disk) = open::to_read(rt) {
+        on_open(rt, &disk, sector, whole);
     }
-    on_open(fd, sector, whole);
-    libc::close(fd);
 }
 
 // list and extract
-fn looks(command: u8, whole: bool) {
-    if !options::are_known(command, 3) {
+fn looks(rt: &HostRuntime, command: u8, whole: bool) {
+    if !options::are_known(rt, command, 3) {
         return;
     }
-    if !args::is_single(3, b"--sector") {
+    if !args::is_single(rt, 3, b"--sector") {
         return;
     }
-    let s = size::wanted(3);
+    let s = size::wanted(rt, 3);
     if s == 0 {
         return;
     }
-    on_disk(s, whole);
+    on_disk(rt, s, whole);
 }
 
-fn no_command() {
+fn no_command(rt: &HostRuntime) {
     wrong::argument(
+        rt,
         1,
         b"the command",
         b"list, extract, push or remove; station --help says more",
@@ -82,52 +81,52 @@ fn no_command() {
 }
 
 // What a command asks for.
-fn carry_out(command: u8) {
+fn carry_out(rt: &HostRuntime, command: u8) {
     match command {
-        1 => looks(1, false),
-        2 => looks(2, true),
-        3 => wishes::add(),
-        4 => wishes::remove(),
-        _ => no_command(),
+        1 => looks(rt, 1, false),
+        2 => looks(rt, 2, true),
+        3 => wishes::add(rt),
+        4 => wishes::remove(rt),
+        _ => no_command(rt),
     }
 }
 
-fn explain(command: u8) {
+fn explain(rt: &HostRuntime, command: u8) {
     match command {
-        1 => help::list(),
-        2 => help::extract(),
-        3 => help::push(),
-        4 => help::remove(),
-        _ => help::all(),
+        1 => help::list(rt),
+        2 => help::extract(rt),
+        3 => help::push(rt),
+        4 => help::remove(rt),
+        _ => help::all(rt),
     }
 }
 
 // A command without a disk to work on.
-fn no_disk(command: u8) {
-    wrong::argument(2, b"DISK", b"a disk or an image");
+fn no_disk(rt: &HostRuntime, command: u8) {
+    wrong::argument(rt, 2, b"DISK", b"a disk or an image");
     if 2 < command {
-        change::end(false);
+        change::end(rt, false);
     }
 }
 
 // Is a command there, and no disk?
-fn lacks_disk(command: u8) -> bool {
+fn lacks_disk(rt: &HostRuntime, command: u8) -> bool {
     if command == 0 {
         return false;
     }
-    os::arg_count() <= 2
+    !args::is_there(rt, 2)
 }
 
-fn main() {
-    let command = args::command();
-    if args::asks_help() {
-        return explain(command);
+fn main(rt: HostRuntime) {
+    let command = args::command(&rt);
+    if args::asks_help(&rt) {
+        return explain(&rt, command);
     }
-    if args::is(1, b"--version") {
-        return help::version();
+    if args::is(&rt, 1, b"--version") {
+        return help::version(&rt);
     }
-    if lacks_disk(command) {
-        return no_disk(command);
+    if lacks_disk(&rt, command) {
+        return no_disk(&rt, command);
     }
-    carry_out(command);
+    carry_out(&rt, command);
 }

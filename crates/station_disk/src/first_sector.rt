@@ -66,29 +66,30 @@ pub fn fits(x: &[u8]) -> bool {
 }
 
 // Sixteen bytes of a record, from an offset on.
-fn show_part(name: &[u8], r: &[u8], at: usize) {
-    errors::text(name);
-    hex::line(2, slices::part(slices::behind(r, at), 16));
+fn show_part(rt: &HostRuntime, name: &[u8], r: &[u8], at: usize) {
+    errors::text(rt, name);
+    let _ = hex::line(&rt.stderr(), slices::part(slices::behind(r, at), 16));
 }
 
-fn show_record(r: &[u8]) {
-    show_part(b"  it begins with", r, 0);
-    show_part(b"  first entry   ", r, 446);
-    show_part(b"  second entry  ", r, 462);
-    show_part(b"  it ends with  ", r, 510);
+fn show_record(rt: &HostRuntime, r: &[u8]) {
+    show_part(rt, b"  it begins with", r, 0);
+    show_part(rt, b"  first entry   ", r, 446);
+    show_part(rt, b"  second entry  ", r, 462);
+    show_part(rt, b"  it ends with  ", r, 510);
 }
 
 // Says what the extended partition begins with that is no boot record.
-pub fn show_other(x: &[u8]) {
+pub fn show_other(rt: &HostRuntime, x: &[u8]) {
     match extended(x) {
         Found::Nothing => {}
         Found::Entry(e) => {
             errors::with_number(
+                rt,
                 b"warning: sector ",
                 e.starting_lba,
                 b", where the extended partition begins, is no boot record and not empty; sfdisk may still show zones that are not listed here\n",
             );
-            show_record(extract::look_up_record::look_up(x, e.starting_lba));
+            show_record(rt, extract::look_up_record::look_up(x, e.starting_lba));
         }
     }
 }
@@ -111,7 +112,7 @@ fn has_guid(h: MBRHeader) -> bool {
 }
 
 // Says that the disk has a GUID table, if it has one: an entry of type EE stands for it.
-pub fn show_guid(x: &[u8]) {
+pub fn show_guid(rt: &HostRuntime, x: &[u8]) {
     let h = read_table::read_header(x);
     let answer = h.answer;
     match answer {
@@ -120,6 +121,7 @@ pub fn show_guid(x: &[u8]) {
             let header = h.header;
             if has_guid(header) {
                 errors::warning(
+                    rt,
                     b"this disk has a GUID partition table (GPT); its partitions are not listed here",
                 );
             }

@@ -4,6 +4,7 @@ use crate::sectors::Sectors;
 use extract_lay::Laid;
 use read_table::Want;
 use station_words::{errors, slices};
+use std::fs::File;
 
 // The extract's length so far, or why there is none, and whether there is more to collect.
 #[derive(Clone, Copy)]
@@ -29,9 +30,9 @@ fn start(sector: u32, d: u32, x: &mut [u8]) -> usize {
 }
 
 // The extract with the record of a sector of the disk.
-fn add(fd: i32, sector: u32, lba: u32, x: &mut [u8], n: usize) -> Step {
+fn add(disk: &File, sector: u32, lba: u32, x: &mut [u8], n: usize) -> Step {
     let mut record = [0u8; 512];
-    if !sectors::read_at(fd, sector, lba, &mut record) {
+    if !sectors::read_at(disk, sector, lba, &mut record) {
         return ended(sectors::UNREAD);
     }
     let mut y = [0u8; extract::LARGEST];
@@ -47,20 +48,20 @@ fn add(fd: i32, sector: u32, lba: u32, x: &mut [u8], n: usize) -> Step {
     }
 }
 
-fn advance(fd: i32, sector: u32, x: &mut [u8], n: usize) -> Step {
+fn advance(disk: &File, sector: u32, x: &mut [u8], n: usize) -> Step {
     match read_table::wanted(slices::part(x, n)) {
         Want::Nothing => ended(n),
-        Want::Sector(lba) => add(fd, sector, lba, x, n),
+        Want::Sector(lba) => add(disk, sector, lba, x, n),
         Want::Refused(_) => ended(sectors::NO_END),
     }
 }
 
 // Adds what is wanted until nothing is. It is two more than the logical partitions at most.
-fn collect(fd: i32, sector: u32, x: &mut [u8], first: usize) -> usize {
+fn collect(disk: &File, sector: u32, x: &mut [u8], first: usize) -> usize {
     let mut n = first;
     let most = extract::RECORDS;
     for _ in 0..most {
-        let s = advance(fd, sector, x, n);
+        let s = advance(disk, sector, x, n);
         n = s.length;
         if !s.more {
             return n;
@@ -70,11 +71,11 @@ fn collect(fd: i32, sector: u32, x: &mut [u8], first: usize) -> usize {
 }
 
 // The extract of the disk at the start of x, and its length; or why there is none.
-pub fn gather(fd: i32, sector: u32, x: &mut [u8]) -> usize {
-    match sectors::size_of(fd, sector) {
+pub fn gather(disk: &File, sector: u32, x: &mut [u8]) -> usize {
+    match sectors::size_of(disk, sector) {
         Sectors::Are(d) => {
             let n = start(sector, d, x);
-            collect(fd, sector, x, n)
+            collect(disk, sector, x, n)
         }
         Sectors::Unknown(why) => why,
     }
@@ -91,7 +92,7 @@ pub fn is_refused(n: usize) -> bool {
 }
 
 // Says why there is no extract.
-pub fn tell(n: usize) {
+pub fn tell(rt: &HostRuntime, n: usize) {
     let line = slices::line(
         b"
 refused 1: the size is no whole number of sectors of this sector size
@@ -104,5 +105,5 @@ failed: a sector of the disk cannot be read
 failed: the records of the disk cannot be collected",
         n,
     );
-    errors::texts(line, b"\n", b"");
+    errors::texts(rt, line, b"\n", b"");
 }

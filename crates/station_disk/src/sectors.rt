@@ -1,6 +1,9 @@
 // The size of an open disk or image, and its sectors.
 use extract::BytePlace;
-use libc::SEEK_END;
+use std::fs::File;
+use std::io;
+use std::io::{ErrorKind, Seek, SeekFrom};
+use std::os::unix::fs::FileExt;
 
 // The number of sectors, or why there is none, by one of the numbers below.
 #[derive(Clone, Copy)]
@@ -27,14 +30,6 @@ pub const UNREAD: usize = 7;
 
 pub const NO_END: usize = 8;
 
-// The number; 0 if it is below.
-fn whole(end: i64) -> u64 {
-    if end < 0 {
-        return 0;
-    }
-    end as u64
-}
-
 // The number of sectors of a size in bytes.
 fn counted(n: u64, sector: u32) -> Sectors {
     if sector == 0 {
@@ -51,60 +46,66 @@ fn counted(n: u64, sector: u32) -> Sectors {
     Sectors::Are(d as u32)
 }
 
-// How many bytes the start of a disk gives; below 0 if it gives none, and errno says why.
-fn first_byte(fd: i32) -> isize {
+// How many bytes the start of a disk gives, or why it gives none.
+fn first_byte(disk: &File) -> io::Result<usize> {
     let mut one = [0u8; 1];
-    libc::pread(fd, &mut one, 0)
+    disk.read_at(&mut one, 0)
+}
+
+// The place of the disk's end, in bytes.
+fn end(mut disk: &File) -> io::Result<u64> {
+    disk.seek(SeekFrom::End(0))
 }
 
 // The size of what can be read from its start on, or cannot.
-fn measured(fd: i32, sector: u32, got: isize) -> Sectors {
-    let end = libc::lseek(fd, 0, SEEK_END);
-    if end < 0 {
-        return Sectors::Unknown(NO_SIZE);
-    }
-    if end == 0 {
-        if 0 < got {
-            return Sectors::Unknown(ENDLESS);
+fn measured(disk: &File, sector: u32, got: usize) -> Sectors {
+    match end(disk) {
+        Err(_) => Sectors::Unknown(NO_SIZE),
+        Ok(n) => {
+            if n == 0 {
+                if 0 < got {
+                    return Sectors::Unknown(ENDLESS);
+                }
+            }
+            counted(n, sector)
         }
     }
-    counted(whole(end), sector)
 }
 
 // The size of the disk in sectors.
-pub fn size_of(fd: i32, sector: u32) -> Sectors {
-    let got = first_byte(fd);
-    if got < 0 {
-        let why = os::errno();
-        if why == libc::EISDIR {
-            return Sectors::Unknown(DIRECTORY);
-        }
-        if why == libc::ESPIPE {
-            return Sectors::Unknown(PIPE);
-        }
+pub fn size_of(disk: &File, sector: u32) -> Sectors {
+    match first_byte(disk) {
+        Ok(got) => measured(disk, sector, got),
+        Err(why) => match why.kind() {
+            ErrorKind::IsADirectory => Sectors::Unknown(DIRECTORY),
+            ErrorKind::NotSeekable => Sectors::Unknown(PIPE),
+            _ => measured(disk, sector, 0),
+        },
     }
-    measured(fd, sector, got)
 }
 
-// Where a sector starts, in bytes; -1 if it has no place.
-pub fn offset(sector: u32, lba: u32) -> i64 {
+// Where a sector starts, in bytes; nothing if it has no place.
+pub fn offset(sector: u32, lba: u32) -> Option<u64> {
     match extract::byte_place(sector, lba) {
         BytePlace::At(p) => {
             if p < 9223372036854775808 {
-                return p as i64;
+                return Some(p);
             }
-            -1
+            None
         }
-        BytePlace::Refused(_) => -1,
+        BytePlace::Refused(_) => None,
     }
 }
 
+// How many bytes were moved; 0 if none could be.
+pub fn count(got: io::Result<usize>) -> usize {
+    got.unwrap_or(0)
+}
+
 // Reads so many bytes from the sector's start on.
-pub fn read_at(fd: i32, sector: u32, lba: u32, d: &mut [u8]) -> bool {
-    let at = offset(sector, lba);
-    if at < 0 {
-        return false;
+pub fn read_at(disk: &File, sector: u32, lba: u32, d: &mut [u8]) -> bool {
+    match offset(sector, lba) {
+        None => false,
+        Some(at) => count(disk.read_at(d, at)) == d.len(),
     }
-    let got = libc::pread(fd, d, at);
-    io::count(got, d) == d.len()
 }

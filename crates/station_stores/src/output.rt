@@ -5,21 +5,21 @@ use read_listing::Listed;
 use station_words::{errors, hex, slices};
 
 // The bytes on standard output; false, and said, if they cannot be written.
-pub fn show(s: &[u8]) -> bool {
-    if io::write_all(1, s) {
+pub fn show(rt: &HostRuntime, s: &[u8]) -> bool {
+    if rt.write_all(s).is_ok() {
         return true;
     }
-    errors::failed(b"standard output cannot be written");
+    errors::failed(rt, b"standard output cannot be written");
     false
 }
 
 // The listing of the table of an extract.
-pub fn show_listing(x: &[u8]) -> bool {
+pub fn show_listing(rt: &HostRuntime, x: &[u8]) -> bool {
     let mut text = [0u8; read_listing::LISTING];
     match read_listing::listing(x, &mut text) {
-        Listed::Length(k) => show(slices::part(&text, k)),
+        Listed::Length(k) => show(rt, slices::part(&text, k)),
         Listed::Refused(n) => {
-            errors::refused(n.number);
+            errors::refused(rt, n.number);
             false
         }
     }
@@ -34,32 +34,32 @@ fn lay_store(x: &[u8], s: &[u8], y: &mut [u8]) -> usize {
 }
 
 // The listing after the second store.
-fn show_second(x: &[u8], out: &[u8]) -> bool {
+fn show_second(rt: &HostRuntime, x: &[u8], out: &[u8]) -> bool {
     let mut y = [0u8; extract::LARGEST];
     let n = lay_store(x, store::second(out), &mut y);
-    show_listing(slices::part(&y, n))
+    show_listing(rt, slices::part(&y, n))
 }
 
 // The listing after the stores.
-fn show_after(x: &[u8], out: &[u8], n: usize) -> bool {
+fn show_after(rt: &HostRuntime, x: &[u8], out: &[u8], n: usize) -> bool {
     let mut y = [0u8; extract::LARGEST];
     let m = lay_store(x, store::first(out), &mut y);
     if n < 2 {
-        return show_listing(slices::part(&y, m));
+        return show_listing(rt, slices::part(&y, m));
     }
-    show_second(slices::part(&y, m), out)
+    show_second(rt, slices::part(&y, m), out)
 }
 
 // A line of 16 bytes of a record, with its offset in front; nothing if they are all zeros.
-fn show_line(r: &[u8], at: usize) -> bool {
+fn show_line(rt: &HostRuntime, r: &[u8], at: usize) -> bool {
     let line = slices::part(slices::behind(r, at), 16);
     if slices::same(line, &[0u8; 16]) {
         return true;
     }
-    if !io::print_hex(1, at as u64, 3) {
+    if print!(rt; "{at:03x}").is_err() {
         return false;
     }
-    hex::line(1, line)
+    hex::line(rt, line)
 }
 
 // The offset of a line.
@@ -71,61 +71,62 @@ fn offset(i: u32) -> usize {
 }
 
 // The lines of a record that are not all zeros.
-fn show_record(r: &[u8]) -> bool {
+fn show_record(rt: &HostRuntime, r: &[u8]) -> bool {
     let lines: u32 = 32;
     for i in 0..lines {
-        if !show_line(r, offset(i)) {
+        if !show_line(rt, r, offset(i)) {
             return false;
         }
     }
     true
 }
 
-fn show_store(s: &[u8]) -> bool {
-    if !io::write_all(1, b"store ") {
+fn show_store(rt: &HostRuntime, s: &[u8]) -> bool {
+    if rt.write_all(b"store ").is_err() {
         return false;
     }
-    if !io::print_decimal(1, store::lba_of(s) as u64) {
+    let lba = store::lba_of(s);
+    if print!(rt; "{lba}").is_err() {
         return false;
     }
-    if !io::write_all(1, b"\n") {
+    if rt.write_all(b"\n").is_err() {
         return false;
     }
-    show_record(store::record_of(s))
+    show_record(rt, store::record_of(s))
 }
 
 // The stores on standard output; false if they cannot be written there.
-fn show_all(out: &[u8], n: usize) -> bool {
-    if !show_store(store::first(out)) {
+fn show_all(rt: &HostRuntime, out: &[u8], n: usize) -> bool {
+    if !show_store(rt, store::first(out)) {
         return false;
     }
     if n < 2 {
         return true;
     }
-    show_store(store::second(out))
+    show_store(rt, store::second(out))
 }
 
-fn show_stores(out: &[u8], n: usize) -> bool {
-    if show_all(out, n) {
+fn show_stores(rt: &HostRuntime, out: &[u8], n: usize) -> bool {
+    if show_all(rt, out, n) {
         return true;
     }
-    errors::failed(b"standard output cannot be written");
+    errors::failed(rt, b"standard output cannot be written");
     false
 }
 
 // The table before a change, its stores and the table after it.
-pub fn show_change(x: &[u8], out: &[u8], n: usize) -> bool {
-    if !show(b"before\n") {
+pub fn show_change(rt: &HostRuntime, x: &[u8], out: &[u8], n: usize) -> bool {
+    if !show(rt, b"before\n") {
         return false;
     }
-    if !show_listing(x) {
+    if !show_listing(rt, x) {
         return false;
     }
-    if !show_stores(out, n) {
+    if !show_stores(rt, out, n) {
         return false;
     }
-    if !show(b"after\n") {
+    if !show(rt, b"after\n") {
         return false;
     }
-    show_after(x, out, n)
+    show_after(rt, x, out, n)
 }

@@ -1,5 +1,8 @@
 // The extract kept in a new file before a change.
-use station_words::{args, errors, slices};
+use station_words::{args, errors, paths, slices};
+use std::fs::{File, OpenOptions};
+use std::io;
+use std::io::Write;
 
 // The length of the path of the folder that a path's file stands in, with its slash.
 fn folder_length(path: &[u8]) -> usize {
@@ -12,57 +15,56 @@ fn folder_length(path: &[u8]) -> usize {
     n
 }
 
-fn open_folder(path: &[u8]) -> i32 {
+fn open_folder(rt: &HostRuntime, path: &[u8]) -> io::Result<File> {
     let n = folder_length(path);
     if n == 0 {
-        return os::open_read(b".");
+        return File::open(rt, ".");
     }
-    os::open_read(slices::part(path, n))
+    paths::open(rt, slices::part(path, n))
 }
 
 // Flushes the folder, so that it keeps the new name.
-fn flush_folder(path: &[u8]) -> bool {
-    let fd = open_folder(path);
-    if fd < 0 {
-        return false;
-    }
-    let answer = libc::fsync(fd);
-    libc::close(fd);
-    answer == 0
+fn flush_folder(rt: &HostRuntime, path: &[u8]) -> io::Result<()> {
+    let folder = open_folder(rt, path)?;
+    folder.sync_all()
 }
 
-fn fill(fd: i32, x: &[u8]) -> bool {
-    if !io::write_all(fd, x) {
-        return false;
-    }
-    libc::fsync(fd) == 0
+// The bytes into the file, flushed; then it is closed.
+fn fill(mut file: File, x: &[u8]) -> io::Result<()> {
+    file.write_all(x)?;
+    file.sync_all()
 }
 
-fn keep(path: &[u8], x: &[u8]) -> bool {
-    let fd = os::create(path);
-    if fd < 0 {
-        return false;
-    }
-    let good = fill(fd, x);
-    libc::close(fd);
-    if !good {
-        return false;
-    }
-    flush_folder(path)
+fn create(rt: &HostRuntime, path: &[u8]) -> io::Result<File> {
+    OpenOptions::new()
+        .write(true)
+        .create_new(true)
+        .open(rt, paths::name(path)?)
+}
+
+fn keep(rt: &HostRuntime, path: &[u8], x: &[u8]) -> io::Result<()> {
+    let file = create(rt, path)?;
+    fill(file, x)?;
+    flush_folder(rt, path)
 }
 
 // Writes the extract to the new file that --save names, and flushes it. Where the option is not there, nothing is to be done.
-pub fn save(x: &[u8]) -> bool {
-    let i = args::find(4, b"--save");
+pub fn save(rt: &HostRuntime, x: &[u8]) -> bool {
+    let i = args::find(rt, 4, b"--save");
     if i == 0 {
         return true;
     }
-    let mut path = io::buffer();
-    let n = os::arg(args::behind(i), &mut path);
-    if keep(&path[..n], x) {
-        return true;
+    let mut space = [0u8; args::LONGEST];
+    let path = args::bytes(rt, args::behind(i), &mut space);
+    match keep(rt, path, x) {
+        Ok(()) => true,
+        Err(why) => {
+            errors::system(rt, path, &why);
+            errors::failed(
+                rt,
+                b"the extract cannot be kept in a new file; nothing was stored on the disk",
+            );
+            false
+        }
     }
-    os::fail(&path[..n]);
-    errors::failed(b"the extract cannot be kept in a new file; nothing was stored on the disk");
-    false
 }

@@ -1,17 +1,37 @@
 // The program's arguments.
 use crate::{slices, wrong};
+use std::env::{Env, FillError};
 
 // The program looks at no argument from this place on.
 pub const MOST: usize = 24;
 
+// The bytes that an argument is read into; a longer one is read as an empty one.
+pub const LONGEST: usize = 4096;
+
 // What no number is read as.
 pub const NO_NUMBER: u64 = 4294967296;
 
+// The argument's bytes, at the start of the space; none where it is missing or longer.
+pub fn bytes<'a>(rt: &HostRuntime, i: usize, space: &'a mut [u8]) -> &'a [u8] {
+    match rt.arg(i, space) {
+        Ok(n) => slices::part(space, n),
+        Err(_) => slices::part(space, 0),
+    }
+}
+
+// Is there an argument at this place?
+pub fn is_there(rt: &HostRuntime, i: usize) -> bool {
+    let mut space = [0u8; 1];
+    match rt.arg(i, &mut space) {
+        Ok(_) | Err(FillError::TooLong) => true,
+        Err(FillError::NotPresent) => false,
+    }
+}
+
 // Is the argument this word?
-pub fn is(i: usize, word: &[u8]) -> bool {
-    let mut space = io::buffer();
-    let n = os::arg(i, &mut space);
-    slices::same(&space[..n], word)
+pub fn is(rt: &HostRuntime, i: usize, word: &[u8]) -> bool {
+    let mut space = [0u8; LONGEST];
+    slices::same(bytes(rt, i, &mut space), word)
 }
 
 // The number with one digit more behind it.
@@ -45,25 +65,24 @@ pub fn decimal(s: &[u8]) -> u64 {
 }
 
 // The number that the argument spells.
-pub fn number(i: usize) -> u64 {
-    let mut space = io::buffer();
-    let n = os::arg(i, &mut space);
-    decimal(&space[..n])
+pub fn number(rt: &HostRuntime, i: usize) -> u64 {
+    let mut space = [0u8; LONGEST];
+    decimal(bytes(rt, i, &mut space))
 }
 
 // The number that the argument spells; NO_NUMBER, and said why, if it spells none.
-pub fn number_for(i: usize, name: &[u8]) -> u64 {
-    let v = number(i);
+pub fn number_for(rt: &HostRuntime, i: usize, name: &[u8]) -> u64 {
+    let v = number(rt, i);
     if 4294967295 < v {
-        wrong::argument(i, name, b"a whole number up to 4294967295");
+        wrong::argument(rt, i, name, b"a whole number up to 4294967295");
     }
     v
 }
 
 // The first argument from a place on that is this word; 0 if none is.
-pub fn find(from: usize, word: &[u8]) -> usize {
+pub fn find(rt: &HostRuntime, from: usize, word: &[u8]) -> usize {
     for i in from..MOST {
-        if is(i, word) {
+        if is(rt, i, word) {
             return i;
         }
     }
@@ -71,15 +90,15 @@ pub fn find(from: usize, word: &[u8]) -> usize {
 }
 
 // The number behind an option from a place on, or what stands for it; NO_NUMBER, and said why, if it is none.
-pub fn option_for(from: usize, word: &[u8], other: u64) -> u64 {
-    let i = find(from, word);
+pub fn option_for(rt: &HostRuntime, from: usize, word: &[u8], other: u64) -> u64 {
+    let i = find(rt, from, word);
     if i == 0 {
         return other;
     }
     let at = behind(i);
-    let v = number(at);
+    let v = number(rt, at);
     if 4294967295 < v {
-        wrong::behind(at, word, b"a whole number up to 4294967295");
+        wrong::behind(rt, at, word, b"a whole number up to 4294967295");
     }
     v
 }
@@ -93,20 +112,20 @@ pub fn behind(i: usize) -> usize {
 }
 
 // Is the option there?
-pub fn flag(from: usize, word: &[u8]) -> bool {
-    find(from, word) != 0
+pub fn flag(rt: &HostRuntime, from: usize, word: &[u8]) -> bool {
+    find(rt, from, word) != 0
 }
 
 // Is the option there once at most? If not, it is said.
-pub fn is_single(from: usize, word: &[u8]) -> bool {
-    let i = find(from, word);
+pub fn is_single(rt: &HostRuntime, from: usize, word: &[u8]) -> bool {
+    let i = find(rt, from, word);
     if i == 0 {
         return true;
     }
-    if find(behind(i), word) == 0 {
+    if find(rt, behind(i), word) == 0 {
         return true;
     }
-    wrong::twice(word);
+    wrong::twice(rt, word);
     false
 }
 
@@ -139,42 +158,41 @@ fn hex(s: &[u8]) -> u16 {
 }
 
 // The type that the argument spells.
-fn kind(i: usize) -> u16 {
-    let mut space = io::buffer();
-    let n = os::arg(i, &mut space);
-    hex(&space[..n])
+fn kind(rt: &HostRuntime, i: usize) -> u16 {
+    let mut space = [0u8; LONGEST];
+    hex(bytes(rt, i, &mut space))
 }
 
 // The type that the argument spells; 256, and said why, if it spells none.
-pub fn kind_for(i: usize) -> u16 {
-    let v = kind(i);
+pub fn kind_for(rt: &HostRuntime, i: usize) -> u16 {
+    let v = kind(rt, i);
     if 255 < v {
-        wrong::argument(i, b"TYPE", b"two hex digits");
+        wrong::argument(rt, i, b"TYPE", b"two hex digits");
     }
     v
 }
 
 // The command that the first argument names: 1 list, 2 extract, 3 push, 4 remove; 0 if it names none.
-pub fn command() -> u8 {
-    if is(1, b"list") {
+pub fn command(rt: &HostRuntime) -> u8 {
+    if is(rt, 1, b"list") {
         return 1;
     }
-    if is(1, b"extract") {
+    if is(rt, 1, b"extract") {
         return 2;
     }
-    if is(1, b"push") {
+    if is(rt, 1, b"push") {
         return 3;
     }
-    if is(1, b"remove") {
+    if is(rt, 1, b"remove") {
         return 4;
     }
     0
 }
 
 // Is one of the arguments a question for help?
-pub fn asks_help() -> bool {
-    if flag(1, b"--help") {
+pub fn asks_help(rt: &HostRuntime) -> bool {
+    if flag(rt, 1, b"--help") {
         return true;
     }
-    flag(1, b"-h")
+    flag(rt, 1, b"-h")
 }

@@ -1,39 +1,60 @@
 // What the program says on standard error.
 use crate::slices;
+use std::io;
+use std::io::Write;
 
-pub fn text(s: &[u8]) {
-    io::write_all(2, s);
+pub fn text(rt: &HostRuntime, s: &[u8]) {
+    let _ = Print::write_all(&rt.stderr(), s);
 }
 
-pub fn number(n: u64) {
-    io::print_decimal(2, n);
+pub fn number(rt: &HostRuntime, n: u64) {
+    let _ = eprint!(rt; "{n}");
 }
 
-pub fn texts(one: &[u8], two: &[u8], three: &[u8]) {
-    text(one);
-    text(two);
-    text(three);
+pub fn texts(rt: &HostRuntime, one: &[u8], two: &[u8], three: &[u8]) {
+    text(rt, one);
+    text(rt, two);
+    text(rt, three);
 }
 
 // A number among texts.
-pub fn with_number(one: &[u8], n: u32, two: &[u8]) {
-    text(one);
-    number(n as u64);
-    text(two);
+pub fn with_number(rt: &HostRuntime, one: &[u8], n: u32, two: &[u8]) {
+    text(rt, one);
+    number(rt, n as u64);
+    text(rt, two);
 }
 
 // What went wrong outside the table: an argument, or a call of the system.
-pub fn failed(why: &[u8]) {
-    texts(b"failed: ", why, b"\n");
+pub fn failed(rt: &HostRuntime, why: &[u8]) {
+    texts(rt, b"failed: ", why, b"\n");
+}
+
+// The longest text of a failed call of the system, with its number.
+const LONGEST: usize = 256;
+
+// The text of a failed call of the system, at the start of the space, without the number that is printed behind it.
+fn reason<'a>(e: &io::Error, space: &'a mut [u8; LONGEST]) -> &'a [u8] {
+    let mut rest: &mut [u8] = space;
+    let _ = write!(rest, "{e}");
+    let length = LONGEST.saturating_sub(rest.len());
+    let all = slices::part(space, length);
+    slices::part(all, slices::place(all, b" (os error "))
+}
+
+// What a failed call of the system was about, and its reason.
+pub fn system(rt: &HostRuntime, what: &[u8], e: &io::Error) {
+    let mut space = [0u8; LONGEST];
+    text(rt, what);
+    texts(rt, b": ", reason(e, &mut space), b"\n");
 }
 
 // What an operator should know, though the command goes on.
-pub fn warning(what: &[u8]) {
-    texts(b"warning: ", what, b"\n");
+pub fn warning(rt: &HostRuntime, what: &[u8]) {
+    texts(rt, b"warning: ", what, b"\n");
 }
 
 // A refusal, by its number in the words of its rule.
-pub fn refused(n: u8) {
+pub fn refused(rt: &HostRuntime, n: u8) {
     let line = slices::line(
         b"
 1: the size is no whole number of sectors, or of too many
@@ -63,10 +84,11 @@ pub fn refused(n: u8) {
     );
     if line.len() == 0 {
         return with_number(
+            rt,
             b"refused ",
             n as u32,
             b": this should not happen: note down what you typed\n",
         );
     }
-    texts(b"refused ", line, b"\n");
+    texts(rt, b"refused ", line, b"\n");
 }

@@ -60,17 +60,21 @@ fn spelt(s: &[u8]) -> Shape {
 }
 
 // The geometry behind an option, or none; not a good one, and said why, if it is spelt wrong.
-pub fn option(from: usize, word: &[u8]) -> Shape {
-    let i = args::find(from, word);
+pub fn option(rt: &HostRuntime, from: usize, word: &[u8]) -> Shape {
+    let i = args::find(rt, from, word);
     if i == 0 {
         return none(true);
     }
     let at = args::behind(i);
-    let mut space = io::buffer();
-    let n = os::arg(at, &mut space);
-    let shape = spelt(&space[..n]);
+    let mut space = [0u8; args::LONGEST];
+    let shape = spelt(args::bytes(rt, at, &mut space));
     if !shape.good {
-        wrong::behind(at, word, b"C/H/S, with C up to 65535, H and S up to 255");
+        wrong::behind(
+            rt,
+            at,
+            word,
+            b"C/H/S, with C up to 65535, H and S up to 255",
+        );
     }
     shape
 }

@@ -1,42 +1,47 @@
 // What --help and --version print.
 
-fn lines(s: &[u8]) {
-    io::write_all(1, s);
+fn lines(rt: &HostRuntime, s: &[u8]) {
+    let _ = rt.write_all(s);
 }
 
-fn sector() {
+fn sector(rt: &HostRuntime) {
     lines(
+        rt,
         b"  --sector N: the sector size, 512, 1024, 2048 or 4096; not given, a device's own, and 512 for an image\n",
     );
 }
 
-fn changes() {
+fn changes(rt: &HostRuntime) {
     lines(
+        rt,
         b"  --dry-run: prints the table before and after and the stores, and changes nothing
   --save FILE: first writes the extract of the disk to a new file
   --in-use: goes on though a partition of the disk is mounted, is swap or is held\n",
     );
-    sector();
+    sector(rt);
 }
 
-pub fn list() {
+pub fn list(rt: &HostRuntime) {
     lines(
+        rt,
         b"station list DISK [--sector N]
   prints the partition table of a disk or an image\n",
     );
-    sector();
+    sector(rt);
 }
 
-pub fn extract() {
+pub fn extract(rt: &HostRuntime) {
     lines(
+        rt,
         b"station extract DISK [--sector N]
   writes the records that reading looks at to standard output, as an extract\n",
     );
-    sector();
+    sector(rt);
 }
 
-pub fn push() {
+pub fn push(rt: &HostRuntime) {
     lines(
+        rt,
         b"station push DISK TYPE START SECTORS [--align N] [--geometry C/H/S] [--overwrite-first]
     [--dry-run] [--save FILE] [--in-use] [--sector N]
   adds a logical partition behind the others or in a gap between two, and prints its number; TYPE is two hex digits
@@ -45,27 +50,29 @@ pub fn push() {
   --geometry C/H/S: the disk's, for the partition's addresses; none if not given
   --overwrite-first: goes on though the extended partition begins with something that is no boot record\n",
     );
-    changes();
+    changes(rt);
 }
 
-pub fn remove() {
+pub fn remove(rt: &HostRuntime) {
     lines(
+        rt,
         b"station remove DISK NUMBER [--dry-run] [--save FILE] [--in-use] [--sector N]
   removes the logical partition of that number, from 5 on\n",
     );
-    changes();
+    changes(rt);
 }
 
-pub fn all() {
-    list();
-    extract();
-    push();
-    remove();
+pub fn all(rt: &HostRuntime) {
+    list(rt);
+    extract(rt);
+    push(rt);
+    remove(rt);
     lines(
+        rt,
         b"station COMMAND --help prints the part of one command, station --version the version.\n",
     );
 }
 
-pub fn version() {
-    lines(b"station 0.1.0 (Crumbvessel)\n");
+pub fn version(rt: &HostRuntime) {
+    lines(rt, b"station 0.1.0 (Crumbvessel)\n");
 }

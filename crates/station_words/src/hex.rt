@@ -1,18 +1,18 @@
 // Bytes in hex digits, for an operator to read.
 
-fn byte(fd: i32, b: u8) -> bool {
-    if !io::write_all(fd, b" ") {
+fn byte(to: &impl Print, b: u8) -> bool {
+    if to.write_all(b" ").is_err() {
         return false;
     }
-    io::print_hex(fd, b as u64, 2)
+    print!(to; "{b:02x}").is_ok()
 }
 
 // Writes the rest of a line: the bytes, each behind a space. False if it cannot be written.
-pub fn line(fd: i32, s: &[u8]) -> bool {
+pub fn line(to: &impl Print, s: &[u8]) -> bool {
     for i in 0..s.len() {
-        if !byte(fd, s[i]) {
+        if !byte(to, s[i]) {
             return false;
         }
     }
-    io::write_all(fd, b"\n")
+    to.write_all(b"\n").is_ok()
 }

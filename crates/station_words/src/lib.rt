@@ -9,6 +9,7 @@ pub mod geometry;
 pub mod help;
 pub mod hex;
 pub mod options;
+pub mod paths;
 pub mod size;
 pub mod slices;
 pub mod wrong;

@@ -2,50 +2,50 @@
 use crate::{args, wrong};
 
 // How many arguments the option at a place takes; 0 if it is none that every command has.
-fn common(i: usize) -> u8 {
-    if args::is(i, b"--sector") {
+fn common(rt: &HostRuntime, i: usize) -> u8 {
+    if args::is(rt, i, b"--sector") {
         return 2;
     }
-    if args::is(i, b"--device-sector") {
+    if args::is(rt, i, b"--device-sector") {
         return 2;
     }
     0
 }
 
 // The same for a change.
-fn of_change(i: usize) -> u8 {
-    if args::is(i, b"--dry-run") {
+fn of_change(rt: &HostRuntime, i: usize) -> u8 {
+    if args::is(rt, i, b"--dry-run") {
         return 1;
     }
-    if args::is(i, b"--in-use") {
+    if args::is(rt, i, b"--in-use") {
         return 1;
     }
-    if args::is(i, b"--save") {
+    if args::is(rt, i, b"--save") {
         return 2;
     }
-    common(i)
+    common(rt, i)
 }
 
 // The same for a push.
-fn of_push(i: usize) -> u8 {
-    if args::is(i, b"--align") {
+fn of_push(rt: &HostRuntime, i: usize) -> u8 {
+    if args::is(rt, i, b"--align") {
         return 2;
     }
-    if args::is(i, b"--geometry") {
+    if args::is(rt, i, b"--geometry") {
         return 2;
     }
-    if args::is(i, b"--overwrite-first") {
+    if args::is(rt, i, b"--overwrite-first") {
         return 1;
     }
-    of_change(i)
+    of_change(rt, i)
 }
 
 // The same for a command, by its number.
-fn width(command: u8, i: usize) -> u8 {
+fn width(rt: &HostRuntime, command: u8, i: usize) -> u8 {
     match command {
-        3 => of_push(i),
-        4 => of_change(i),
-        _ => common(i),
+        3 => of_push(rt, i),
+        4 => of_change(rt, i),
+        _ => common(rt, i),
     }
 }
 
@@ -58,34 +58,34 @@ fn behind(i: usize, k: u8) -> usize {
 }
 
 // Are the arguments from a place on options of the command? If not, it is said which is none.
-pub fn are_known(command: u8, from: usize) -> bool {
+pub fn are_known(rt: &HostRuntime, command: u8, from: usize) -> bool {
     let mut i = from;
     let most = args::MOST;
     for _ in 0..most {
-        if os::arg_count() <= i {
+        if !args::is_there(rt, i) {
             return true;
         }
-        let k = width(command, i);
+        let k = width(rt, command, i);
         if k == 0 {
-            wrong::word(i, b"an option; station COMMAND --help names them");
+            wrong::word(rt, i, b"an option; station COMMAND --help names them");
             return false;
         }
         i = behind(i, k);
     }
-    wrong::word(i, b"fewer arguments");
+    wrong::word(rt, i, b"fewer arguments");
     false
 }
 
 // Is no option of a change there twice? If one is, it is said which.
-pub fn are_single(from: usize) -> bool {
-    if !args::is_single(from, b"--sector") {
+pub fn are_single(rt: &HostRuntime, from: usize) -> bool {
+    if !args::is_single(rt, from, b"--sector") {
         return false;
     }
-    if !args::is_single(from, b"--save") {
+    if !args::is_single(rt, from, b"--save") {
         return false;
     }
-    if !args::is_single(from, b"--align") {
+    if !args::is_single(rt, from, b"--align") {
         return false;
     }
-    args::is_single(from, b"--geometry")
+    args::is_single(rt, from, b"--geometry")
 }

@@ -51,6 +51,18 @@ pub fn has(s: &[u8], word: &[u8]) -> bool {
     false
 }
 
+// Where the word stands first, or the length.
+pub fn place(s: &[u8], word: &[u8]) -> usize {
+    let mut i = 0;
+    while i < s.len() {
+        if begins(behind(s, i), word) {
+            return i;
+        }
+        i += 1;
+    }
+    i
+}
+
 // Where the byte stands first, or the length.
 pub fn find(s: &[u8], b: u8) -> usize {
     let mut i = 0;

@@ -11,24 +11,26 @@ pub mod on_extract;
 pub mod on_mbr;
 pub mod on_record;
 
-pub fn answer(l: &[u8], x: &[u8], o: &mut [u8]) {
-    if crate::on_chs::run(l) {
+use case_show::say::Out;
+
+pub fn answer(out: &mut Out, l: &[u8], x: &[u8], o: &mut [u8]) {
+    if crate::on_chs::run(out, l) {
         return;
     }
-    if crate::on_entry::run(l) {
+    if crate::on_entry::run(out, l) {
         return;
     }
-    if crate::on_mbr::run(l, x) {
+    if crate::on_mbr::run(out, l, x) {
         return;
     }
-    if crate::on_record::run(l, x, o) {
+    if crate::on_record::run(out, l, x, o) {
         return;
     }
-    if crate::on_ebr::run(l, x, o) {
+    if crate::on_ebr::run(out, l, x, o) {
         return;
     }
-    if crate::on_extract::run(l, x, o) {
+    if crate::on_extract::run(out, l, x, o) {
         return;
     }
-    case_show::say::text(b" unknown");
+    case_show::say::text(out, b" unknown");
 }

@@ -1,5 +1,6 @@
 // The cases of EBR records.
 use base::Answer;
+use case_show::say::Out;
 use record_ebr::{EBRHeader, Kept, MARK};
 
 // The start of X.
@@ -37,52 +38,52 @@ fn given(l: &[u8], x: &[u8]) -> EBRHeader {
     }
 }
 
-fn show(e: EBRHeader) {
+fn show(out: &mut Out, e: EBRHeader) {
     let kept = e.kept;
-    case_show::shown::kept(kept);
+    case_show::shown::kept(out, kept);
     let one = e.partition_1;
-    case_show::shown::entry(one);
+    case_show::shown::entry(out, one);
     let two = e.partition_2;
-    case_show::shown::entry(two);
+    case_show::shown::entry(out, two);
 }
 
-fn read(x: &[u8]) {
+fn read(out: &mut Out, x: &[u8]) {
     let r = record_ebr::reader::read(x);
     let answer = r.answer;
     match answer {
         Answer::Done => {
             let e = r.ebr;
-            show(e);
+            show(out, e);
         }
-        Answer::Refused(n) => case_show::say::refused(n.number),
+        Answer::Refused(n) => case_show::say::refused(out, n.number),
     }
 }
 
-fn write(e: EBRHeader, o: &mut [u8]) {
+fn write(out: &mut Out, e: EBRHeader, o: &mut [u8]) {
     let answer = record_ebr::writer::write(e, o);
-    case_show::lent::answered(answer, o);
+    case_show::lent::answered(out, answer, o);
 }
 
 // What reading X answers, written.
-fn again(x: &[u8], o: &mut [u8]) {
+fn again(out: &mut Out, x: &[u8], o: &mut [u8]) {
     let r = record_ebr::reader::read(x);
     let answer = r.answer;
     match answer {
         Answer::Done => {
             let e = r.ebr;
-            write(e, o);
+            write(out, e, o);
         }
-        Answer::Refused(n) => case_show::say::refused(n.number),
+        Answer::Refused(n) => case_show::say::refused(out, n.number),
     }
 }
 
 // Answers the line if its command is in the list.
-pub fn run(l: &[u8], x: &[u8], o: &mut [u8]) -> bool {
+pub fn run(out: &mut Out, l: &[u8], x: &[u8], o: &mut [u8]) -> bool {
     let k = case_show::line::which(l, b"ebr_read ebr_write ebr_again");
     match k {
-        0 => read(x),
-        1 => write(given(l, x), o),
-        2 => again(x, o),
+        0 => read(out, x),
+        1 => write(out, given(l, x), o),
+        2 => again(out, x, o),
         _ => {
             return false;
         }

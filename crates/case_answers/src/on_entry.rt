@@ -1,6 +1,7 @@
 // The cases of partition entries.
 ghost use Rattle.std.specs.Prelude.{◌<◌};
 
+use case_show::say::Out;
 use record_entry::MBRPartitionEntry;
 
 // The entry in ten words of the line, after `k` spaces.
@@ -19,25 +20,25 @@ pub fn given(l: &[u8], k: usize) -> MBRPartitionEntry
     }
 }
 
-fn is(e: MBRPartitionEntry) {
-    case_show::say::truth(e.is_used());
-    case_show::say::truth(e.is_unused());
-    case_show::say::truth(e.is_extended());
-    case_show::say::truth(e.is_active());
+fn is(out: &mut Out, e: MBRPartitionEntry) {
+    case_show::say::truth(out, e.is_used());
+    case_show::say::truth(out, e.is_unused());
+    case_show::say::truth(out, e.is_extended());
+    case_show::say::truth(out, e.is_active());
 }
 
-fn boot() {
-    case_show::say::n8(record_entry::BOOT_ACTIVE);
-    case_show::say::n8(record_entry::BOOT_INACTIVE);
+fn boot(out: &mut Out) {
+    case_show::say::n8(out, record_entry::BOOT_ACTIVE);
+    case_show::say::n8(out, record_entry::BOOT_INACTIVE);
 }
 
 // Answers the line if its command is in the list.
-pub fn run(l: &[u8]) -> bool {
+pub fn run(out: &mut Out, l: &[u8]) -> bool {
     let k = case_show::line::which(l, b"entry_boot entry_empty entry_is");
     match k {
-        0 => boot(),
-        1 => case_show::shown::entry(MBRPartitionEntry::empty()),
-        2 => is(given(l, 1)),
+        0 => boot(out),
+        1 => case_show::shown::entry(out, MBRPartitionEntry::empty()),
+        2 => is(out, given(l, 1)),
         _ => {
             return false;
         }

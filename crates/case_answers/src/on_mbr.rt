@@ -1,4 +1,5 @@
 // The cases of MBR headers.
+use case_show::say::Out;
 use record_mbr::{Found, MBRHeader, Protection};
 
 // The start of X.
@@ -40,45 +41,45 @@ pub fn given(l: &[u8], x: &[u8]) -> MBRHeader {
     }
 }
 
-fn show_found(e: Found) {
+fn show_found(out: &mut Out, e: Found) {
     match e {
-        Found::Nothing => case_show::say::text(b" none"),
-        Found::Entry(e) => case_show::shown::entry(e),
+        Found::Nothing => case_show::say::text(out, b" none"),
+        Found::Entry(e) => case_show::shown::entry(out, e),
     }
 }
 
-fn get(l: &[u8], x: &[u8]) {
-    show_found(given(l, x).get(case_show::line::size(l, 49)));
+fn get(out: &mut Out, l: &[u8], x: &[u8]) {
+    show_found(out, given(l, x).get(case_show::line::size(l, 49)));
 }
 
-fn extended(l: &[u8], x: &[u8]) {
-    show_found(given(l, x).get_extended_partition());
+fn extended(out: &mut Out, l: &[u8], x: &[u8]) {
+    show_found(out, given(l, x).get_extended_partition());
 }
 
-fn show_protection(p: Protection) {
+fn show_protection(out: &mut Out, p: Protection) {
     match p {
-        Protection::No => case_show::say::truth(false),
-        Protection::Yes => case_show::say::truth(true),
-        Protection::Neither => case_show::say::text(b" neither"),
+        Protection::No => case_show::say::truth(out, false),
+        Protection::Yes => case_show::say::truth(out, true),
+        Protection::Neither => case_show::say::text(out, b" neither"),
     }
 }
 
-fn copy(l: &[u8], x: &[u8]) {
-    show_protection(given(l, x).is_copy_protected());
+fn copy(out: &mut Out, l: &[u8], x: &[u8]) {
+    show_protection(out, given(l, x).is_copy_protected());
 }
 
-fn new(l: &[u8]) {
-    case_show::shown::header(MBRHeader::new(four(l)));
+fn new(out: &mut Out, l: &[u8]) {
+    case_show::shown::header(out, MBRHeader::new(four(l)));
 }
 
 // Answers the line if its command is in the list.
-pub fn run(l: &[u8], x: &[u8]) -> bool {
+pub fn run(out: &mut Out, l: &[u8], x: &[u8]) -> bool {
     let k = case_show::line::which(l, b"mbr_new mbr_get mbr_extended mbr_copy");
     match k {
-        0 => new(l),
-        1 => get(l, x),
-        2 => extended(l, x),
-        3 => copy(l, x),
+        0 => new(out, l),
+        1 => get(out, l, x),
+        2 => extended(out, l, x),
+        3 => copy(out, l, x),
         _ => {
             return false;
         }

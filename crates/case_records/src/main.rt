@@ -2,10 +2,15 @@
 // Scope: modules 1 to 3, run and compared; the cases stand on standard input, second/answers.py has their commands.
 #![tactic(auto)]
 
-fn main() {
+use std::io;
+use std::io::BufWriter;
+
+fn main(rt: HostRuntime) -> io::Result<()> {
     let mut text = case_show::lent::text_buffer();
-    let mut x = io::large_buffer();
-    let mut o = io::large_buffer();
-    let n = io::read_full(0, &mut text);
-    case_answers::cases::run(&text[..n], &mut x, &mut o);
+    let mut x = case_show::lent::large_buffer();
+    let mut o = case_show::lent::large_buffer();
+    let n = case_show::lent::read_full(&mut rt.stdin(), &mut text);
+    let mut out = BufWriter::new(rt.alloc(), rt.stdout())?;
+    case_answers::cases::run(&mut out, &text[..n], &mut x, &mut o);
+    Ok(())
 }

@@ -1,13 +1,36 @@
 // What a case file is read into, and what its commands work on: X, the lent input, and O, the lent output, each the first part of a buffer.
-ghost use Rattle.std.specs.Prelude.{◌≡◌, ◌<◌, length};
+ghost use Rattle.std.specs.Prelude.{◌≡◌, ◌≤◌, ◌<◌, length};
 
+use crate::say::Out;
 use base::Answer;
+use std::io::Read;
 
 // Zeros, for the case file.
 pub fn text_buffer() -> [u8; 393216]
     ensures { 393216 ≡ length result }
 {
     [0u8; 393216]
+}
+
+// Zeros, for X or O.
+pub fn large_buffer() -> [u8; 65536]
+    ensures { 65536 ≡ length result }
+{
+    [0u8; 65536]
+}
+
+// Reads until the buffer is full, the input ends or a read fails: how many bytes there are.
+pub fn read_full<R: Read>(from: &mut R, s: &mut [u8]) -> usize
+    ensures { result ≤ length s.new }
+{
+    let mut done = 0;
+    while done < s.len() {
+        match from.read(&mut s[done..]) {
+            Ok(0) | Err(_) => break,
+            Ok(n) => done += n,
+        }
+    }
+    done
 }
 
 // The lengths of X and of O.
@@ -87,13 +110,13 @@ pub fn checksum(s: &[u8]) -> u64 {
 }
 
 // What a call that was lent O answered, then O's length and checksum.
-pub fn answered(a: Answer, o: &[u8]) {
+pub fn answered(out: &mut Out, a: Answer, o: &[u8]) {
     match a {
-        Answer::Done => crate::say::text(b" done"),
-        Answer::Refused(n) => crate::say::refused(n.number),
+        Answer::Done => crate::say::text(out, b" done"),
+        Answer::Refused(n) => crate::say::refused(out, n.number),
     }
-    crate::say::n64(o.len() as u64);
-    crate::say::n64(checksum(o));
+    crate::say::n64(out, o.len() as u64);
+    crate::say::n64(out, checksum(o));
 }
 
 // X becomes zeros.

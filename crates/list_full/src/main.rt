@@ -2,6 +2,6 @@
 // Scope: Numbers to hold (the listing program: two hex digits, capitals).
 #![tactic(auto)]
 
-fn main() {
-    list_print::list_input();
+fn main(rt: HostRuntime) {
+    list_print::list_input(&rt);
 }

@@ -5,7 +5,8 @@
  *
  *     cc examples/list.c $(pkg-config --cflags --libs crumbvessel)
  *
- * Of the archive a program gets the parts whose functions it calls.
+ * The archive is one object, each function in a section of its own: linked with -Wl,--gc-sections a program has those
+ * that it calls.
  *
  * Lent bytes are an address and a length. The address is never null, also where the length is 0. Bytes that a function
  * writes overlap nothing else that the same call is lent. No function keeps an address or allocates. A refusal leaves

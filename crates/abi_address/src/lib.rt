@@ -18,24 +18,21 @@ use record_chs::CHS;
 use record_entry::MBRPartitionEntry;
 
 // The address of a sector; 7, 13, 14.
-#[unsafe(no_mangle)]
-pub extern "C" fn cv_chs_from_lba_exact(lba: u32, cylinders: u16, heads: u8, sectors: u8) -> u64
+pub fn cv_chs_from_lba_exact(lba: u32, cylinders: u16, heads: u8, sectors: u8) -> u64
     ensures { result ≡ packed_chs (exact lba cylinders heads sectors) }
 {
     crate::chs_word::of_placed(CHS::from_lba_exact(lba, cylinders, heads, sectors))
 }
 
 // The cylinder that begins at a sector, or the next one; 7, 13, 14.
-#[unsafe(no_mangle)]
-pub extern "C" fn cv_chs_from_lba_aligned(lba: u32, cylinders: u16, heads: u8, sectors: u8) -> u64
+pub fn cv_chs_from_lba_aligned(lba: u32, cylinders: u16, heads: u8, sectors: u8) -> u64
     ensures { result ≡ packed_chs (aligned lba cylinders heads sectors) }
 {
     crate::chs_word::of_placed(CHS::from_lba_aligned(lba, cylinders, heads, sectors))
 }
 
 // The sector of an address; 7.
-#[unsafe(no_mangle)]
-pub extern "C" fn cv_chs_to_lba(cylinder: u16, head: u8, sector: u8, heads: u8, sectors: u8) -> u64
+pub fn cv_chs_to_lba(cylinder: u16, head: u8, sector: u8, heads: u8, sectors: u8) -> u64
     ensures { result ≡ packed (lba_of (chs cylinder head sector) heads sectors) }
 {
     let c = CHS::new(cylinder, head, sector);
@@ -43,8 +40,7 @@ pub extern "C" fn cv_chs_to_lba(cylinder: u16, head: u8, sector: u8, heads: u8, 
 }
 
 // Whether an address is valid for a geometry.
-#[unsafe(no_mangle)]
-pub extern "C" fn cv_chs_is_valid(
+pub fn cv_chs_is_valid(
     cylinder: u16,
     head: u8,
     sector: u8,
@@ -59,8 +55,7 @@ pub extern "C" fn cv_chs_is_valid(
 }
 
 // The three bytes of an address as a number, little-endian; higher bits are dropped.
-#[unsafe(no_mangle)]
-pub extern "C" fn cv_chs_to_bytes(cylinder: u16, head: u8, sector: u8) -> u32
+pub fn cv_chs_to_bytes(cylinder: u16, head: u8, sector: u8) -> u32
     ensures { result ≡ number little (chs_bytes (chs cylinder head sector)) }
 {
     let c = CHS::new(cylinder, head, sector);
@@ -69,16 +64,14 @@ pub extern "C" fn cv_chs_to_bytes(cylinder: u16, head: u8, sector: u8) -> u32
 }
 
 // The address in three bytes.
-#[unsafe(no_mangle)]
-pub extern "C" fn cv_chs_from_bytes(one: u8, two: u8, three: u8) -> u64
+pub fn cv_chs_from_bytes(one: u8, two: u8, three: u8) -> u64
     ensures { result ≡ packed_chs (gives (chs_of (one ∷ two ∷ three ∷ []))) }
 {
     crate::chs_word::of_chs(CHS::of_bytes([one, two, three]))
 }
 
 // Whether a type is an extended partition's.
-#[unsafe(no_mangle)]
-pub extern "C" fn cv_is_extended(sys: u8) -> bool
+pub fn cv_is_extended(sys: u8) -> bool
     ensures { result ≡ extended sys }
 {
     let mut e = MBRPartitionEntry::empty();

@@ -34,8 +34,7 @@ fn update_on(slot: &mut [u8], l: LogicalPartition, cylinders: u16, heads: u8, se
 }
 
 // Alters the four addresses of the partition in a lent slot: 101, 102, 7, 13, 14.
-#[unsafe(no_mangle)]
-pub extern "C" fn cv_update_chs(slot: &mut [u8], cylinders: u16, heads: u8, sectors: u8) -> u8
+pub fn cv_update_chs(slot: &mut [u8], cylinders: u16, heads: u8, sectors: u8) -> u8
     ensures said { result ≡ status (failure (slot_says (geometry_in cylinders heads sectors) slot.old)) }
     ensures left { slot.new ≡ slot_after slot.old (slot_says (geometry_in cylinders heads sectors) slot.old) }
 {

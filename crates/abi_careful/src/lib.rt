@@ -51,8 +51,7 @@ fn request(
 }
 
 // Careful push: the number of stores, which stand in `out`; reading's refusals, 20, 23, push's, 12, 21, 19.
-#[unsafe(no_mangle)]
-pub extern "C" fn cv_careful_push(
+pub fn cv_careful_push(
     x: &[u8],
     align: u32,
     cylinders: u16,
@@ -71,8 +70,7 @@ pub extern "C" fn cv_careful_push(
 }
 
 // Careful removal: the number of stores, which stand in `out`; reading's refusals, 20, 17, 19.
-#[unsafe(no_mangle)]
-pub extern "C" fn cv_careful_remove(x: &[u8], number: u32, out: &mut [u8]) -> u64
+pub fn cv_careful_remove(x: &[u8], number: u32, out: &mut [u8]) -> u64
     ensures said { result ≡ packed (stores_counted (careful_remove_says x.now (length out.old) number)) }
     ensures left { out.new ≡ out_after out.old (careful_remove_says x.now (length out.old) number) }
 {

@@ -21,8 +21,7 @@ fn sound_on(t: MBR) -> u64
 }
 
 // Whether the table of a block is sound, 1 or 0; the block's refusals.
-#[unsafe(no_mangle)]
-pub extern "C" fn cv_is_sound(b: &[u8]) -> u64
+pub fn cv_is_sound(b: &[u8]) -> u64
     ensures { result ≡ packed_bool (and_then (block_says b.now) sound_says) }
 {
     match block_read::checks::check(b) {

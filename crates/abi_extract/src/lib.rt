@@ -22,8 +22,7 @@ use extract::Header;
 use read_listing::Listed;
 
 // Where the record of a sector stands in the extract; 255 in the upper half if it is absent or refused.
-#[unsafe(no_mangle)]
-pub extern "C" fn cv_look_up(x: &[u8], lba: u32) -> u64
+pub fn cv_look_up(x: &[u8], lba: u32) -> u64
     ensures { result ≡ packed_option (gives (looked_place x.now lba)) }
 {
     match extract::check(x) {
@@ -40,8 +39,7 @@ pub extern "C" fn cv_look_up(x: &[u8], lba: u32) -> u64
 }
 
 // What looking up says: 0, 1 or 2.
-#[unsafe(no_mangle)]
-pub extern "C" fn cv_look_up_answer(x: &[u8], lba: u32) -> u8
+pub fn cv_look_up_answer(x: &[u8], lba: u32) -> u8
     ensures { result ≡ status (look_says x.now lba) }
 {
     crate::length_word::of_answer(extract::look_up_record::look_up_answer(x, lba))
@@ -57,24 +55,21 @@ fn of_listed(l: Listed) -> u64
 }
 
 // What the rules of an extract say: 0 or 1.
-#[unsafe(no_mangle)]
-pub extern "C" fn cv_extract_check(x: &[u8]) -> u8
+pub fn cv_extract_check(x: &[u8]) -> u8
     ensures { result ≡ status (failure (check_says x.now)) }
 {
     crate::length_word::of_header(extract::check(x))
 }
 
 // The sector that reading looks at first and the extract has no record for; 1, and 255 in the upper half for none.
-#[unsafe(no_mangle)]
-pub extern "C" fn cv_wanted(x: &[u8]) -> u64
+pub fn cv_wanted(x: &[u8]) -> u64
     ensures { result ≡ packed_option (wanted_says x.now) }
 {
     crate::wanted_word::of_want(read_table::wanted(x))
 }
 
 // Lays a record over an extract: the new one's length; 1, 2, 22, 19.
-#[unsafe(no_mangle)]
-pub extern "C" fn cv_lay_over(x: &[u8], lba: u32, sector: &[u8], out: &mut [u8]) -> u64
+pub fn cv_lay_over(x: &[u8], lba: u32, sector: &[u8], out: &mut [u8]) -> u64
     ensures said { result ≡ packed (lay_says x.now lba sector.now (length out.old)) }
     ensures left { out.new ≡ lay_leaves x.now lba sector.now out.old }
 {
@@ -82,8 +77,7 @@ pub extern "C" fn cv_lay_over(x: &[u8], lba: u32, sector: &[u8], out: &mut [u8])
 }
 
 // The listing of the table that an extract reads as, or its refusal, as text: its length; 19.
-#[unsafe(no_mangle)]
-pub extern "C" fn cv_listing(x: &[u8], out: &mut [u8]) -> u64
+pub fn cv_listing(x: &[u8], out: &mut [u8]) -> u64
     ensures value { result ≡ packed (answer (listing_checks (length out.old)) (length (listing x.now))) }
     ensures out_after { out.new ≡ checked (listing_checks (length out.old)) (λ _. out.old) (put out.old 0 (listing x.now)) }
 {

@@ -17,8 +17,7 @@ ghost use Rattle.block_lookup.specs.Entry.{entry_status, entry_after};
 use base::Answer;
 
 // The number of the partition at a sector, in the table of a block; the block's refusals, 7; 255 for none.
-#[unsafe(no_mangle)]
-pub extern "C" fn cv_find_at_sector(b: &[u8], sector: u32) -> u64
+pub fn cv_find_at_sector(b: &[u8], sector: u32) -> u64
     ensures { result ≡ packed_option (and_then (block_says b.now) (λ t. find_says t sector)) }
 {
     match block_read::checks::check(b) {
@@ -28,8 +27,7 @@ pub extern "C" fn cv_find_at_sector(b: &[u8], sector: u32) -> u64
 }
 
 // How many partitions the table of a block has, the four primaries always counted; the block's refusals.
-#[unsafe(no_mangle)]
-pub extern "C" fn cv_len(b: &[u8]) -> u64
+pub fn cv_len(b: &[u8]) -> u64
     ensures { result ≡ packed (and_then (block_says b.now) len_says) }
 {
     match block_read::checks::check(b) {
@@ -39,8 +37,7 @@ pub extern "C" fn cv_len(b: &[u8]) -> u64
 }
 
 // Whether the geometry in the table of a block is complete, 1 or 0; the block's refusals.
-#[unsafe(no_mangle)]
-pub extern "C" fn cv_check_geometry(b: &[u8]) -> u64
+pub fn cv_check_geometry(b: &[u8]) -> u64
     ensures { result ≡ packed_bool (and_then (block_says b.now) check_geometry_says) }
 {
     match block_read::checks::check(b) {
@@ -50,8 +47,7 @@ pub extern "C" fn cv_check_geometry(b: &[u8]) -> u64
 }
 
 // The sectors of a cylinder by the geometry in the table of a block; the block's refusals.
-#[unsafe(no_mangle)]
-pub extern "C" fn cv_get_cylinder_size(b: &[u8]) -> u64
+pub fn cv_get_cylinder_size(b: &[u8]) -> u64
     ensures { result ≡ packed (and_then (block_says b.now) cylinder_size_says) }
 {
     match block_read::checks::check(b) {
@@ -62,8 +58,7 @@ pub extern "C" fn cv_get_cylinder_size(b: &[u8]) -> u64
 
 // The entry of a partition number in the table of a block, as 18 bytes at the start of lent ones: the block's refusals,
 // 255 for none, 19, or 0.
-#[unsafe(no_mangle)]
-pub extern "C" fn cv_get(b: &[u8], number: u32, out: &mut [u8]) -> u8
+pub fn cv_get(b: &[u8], number: u32, out: &mut [u8]) -> u8
     ensures said { result ≡ entry_status (length out.old) (and_then (block_says b.now) (λ t. get_says t number)) }
     ensures left { out.new ≡ entry_after out.old (and_then (block_says b.now) (λ t. get_says t number)) }
 {

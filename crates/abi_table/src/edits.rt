@@ -13,8 +13,7 @@ ghost use Rattle.block_new.specs.Updated.{updated_on};
 use base::Answer;
 
 // Removal of the partition at a sector from the table of a block, where it lies: the block's refusals, 7, 15.
-#[unsafe(no_mangle)]
-pub extern "C" fn cv_remove_at_sector(b: &mut [u8], sector: u32) -> u8
+pub fn cv_remove_at_sector(b: &mut [u8], sector: u32) -> u8
     ensures said { result ≡ refusal_number (and_then (block_says b.old) (λ t. remove_at_says t sector)) }
     ensures left { b.new ≡ bytes_after b.old (removed_at_on b.old sector) }
     ensures table { block_says b.new ≡ table_after b.old (λ t. value_or t (remove_at_says t sector)) }
@@ -26,8 +25,7 @@ pub extern "C" fn cv_remove_at_sector(b: &mut [u8], sector: u32) -> u8
 }
 
 // A new table for the disk of an extract, as a block: 1, 101. The disk signature's bytes are the number's, little-endian.
-#[unsafe(no_mangle)]
-pub extern "C" fn cv_new_from(x: &[u8], signature: u32, out: &mut [u8]) -> u8
+pub fn cv_new_from(x: &[u8], signature: u32, out: &mut [u8]) -> u8
     ensures said { result ≡ refusal_number (alone (length out.old) (new_says x.now (bytes_of little 4 signature))) }
     ensures left { out.new ≡ block_after out.old (new_says x.now (bytes_of little 4 signature)) }
 {
@@ -36,8 +34,7 @@ pub extern "C" fn cv_new_from(x: &[u8], signature: u32, out: &mut [u8]) -> u8
 }
 
 // Puts the table of a block on the disk of an extract, where it lies: the block's refusals, 1.
-#[unsafe(no_mangle)]
-pub extern "C" fn cv_update_from(b: &mut [u8], x: &[u8]) -> u8
+pub fn cv_update_from(b: &mut [u8], x: &[u8]) -> u8
     ensures said { result ≡ refusal_number (and_then (block_says b.old) (λ t. update_says t x.now)) }
     ensures left { b.new ≡ bytes_after b.old (updated_on b.old x.now) }
     ensures table { block_says b.new ≡ table_after b.old (λ t. value_or t (update_says t x.now)) }

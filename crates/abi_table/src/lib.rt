@@ -19,8 +19,7 @@ ghost use Rattle.block_new.specs.Put.{block_after, alone};
 use base::Answer;
 
 // The table that an extract reads as, as a block: reading's refusals, 101.
-#[unsafe(no_mangle)]
-pub extern "C" fn cv_read(x: &[u8], out: &mut [u8]) -> u8
+pub fn cv_read(x: &[u8], out: &mut [u8]) -> u8
     ensures said { result ≡ refusal_number (alone (length out.old) (table_says x.now)) }
     ensures left { out.new ≡ block_after out.old (table_says x.now) }
 {
@@ -36,8 +35,7 @@ pub extern "C" fn cv_read(x: &[u8], out: &mut [u8]) -> u8
 }
 
 // push on the table of a block, where it lies: the new partition's number; the block's refusals, push's.
-#[unsafe(no_mangle)]
-pub extern "C" fn cv_push(b: &mut [u8], sys: u8, start: u32, sectors: u32) -> u64
+pub fn cv_push(b: &mut [u8], sys: u8, start: u32, sectors: u32) -> u64
     ensures said { result ≡ packed (and_then (block_says b.old) (λ t. push_says t sys start sectors)) }
     ensures left { b.new ≡ bytes_after b.old (pushed_on b.old sys start sectors) }
     ensures table { block_says b.new ≡ table_after b.old (λ t. push_table t sys start sectors) }
@@ -49,8 +47,7 @@ pub extern "C" fn cv_push(b: &mut [u8], sys: u8, start: u32, sectors: u32) -> u6
 }
 
 // Removal of a logical partition by its number from the table of a block, where it lies: the block's refusals, 17.
-#[unsafe(no_mangle)]
-pub extern "C" fn cv_remove(b: &mut [u8], i: u32) -> u8
+pub fn cv_remove(b: &mut [u8], i: u32) -> u8
     ensures said { result ≡ refusal_number (and_then (block_says b.old) (removed_on b.old i)) }
     ensures left { b.new ≡ bytes_after b.old (removed_on b.old i) }
     ensures table { block_says b.new ≡ table_after b.old (λ t. removed_table t i) }

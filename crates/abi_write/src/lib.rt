@@ -14,8 +14,7 @@ use base::Answer;
 
 // Writes the table of a block over an extract, the new extract to `out`, and leaves the table in its block as writing
 // leaves it: the new extract's length; the block's refusals, writing's.
-#[unsafe(no_mangle)]
-pub extern "C" fn cv_write_into(b: &mut [u8], x: &[u8], out: &mut [u8]) -> u64
+pub fn cv_write_into(b: &mut [u8], x: &[u8], out: &mut [u8]) -> u64
     ensures said { result ≡ packed (length_of (block_says b.old) x.now (length out.old)) }
     ensures left { out.new ≡ table_output (block_says b.old) x.now out.old }
     ensures block { b.new ≡ bytes_after b.old (written_on b.old x.now (length out.old)) }

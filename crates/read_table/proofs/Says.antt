@@ -2,12 +2,11 @@
 use mathlib.Core.Path.{◌≡◌, refl, sym, ap, ◌∙◌}
 use mathlib.Core.List.{List, ◌++◌, map}
 use mathlib.Core.Option.{Option, none, some}
-use Prim.Native.Nat.{ℕ, ◌-◌, ◌≤◌}
+use Prim.Native.Nat.{ℕ, ◌≤◌}
 use native.Mathlib.Omega.{arith}
 use lib.ListN.{length, take}
 use lib.Seq.{length-take-le}
 use Rattle.base.specs.Said.{Said, gives, refuses, and_then, failure, refusal_of, refusal}
-use Rattle.base.specs.Checks.{answer}
 use Rattle.base.specs.declared.Answer.TheVariants.{Done, Refused}
 use Rattle.table.proofs.Laws.{slots-taken}
 use Rattle.record_entry.specs.declared.MBRPartitionEntry.{MBRPartitionEntry}

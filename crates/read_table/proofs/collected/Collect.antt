@@ -1,5 +1,5 @@
 -- Laying a disk's record over an extract of it adds that record and loses none. Assumes nothing.
-use mathlib.Core.Path.{◌≡◌, refl, sym, ap, ◌∙◌}
+use mathlib.Core.Path.{◌≡◌, refl, ap, ◌∙◌}
 use mathlib.Core.List.{List, []}
 use mathlib.Core.Bool.{Bool, true, false}
 use Prim.Native.Nat.{ℕ, ◌≤◌, ◌<◌}
@@ -12,7 +12,7 @@ use Rattle.base.specs.Bytes.{Record}
 use Rattle.extract.specs.Disk.{Disk}
 use Rattle.extract.specs.Extract.{Good, disk_of, disk_sectors, records, record_of, record_in}
 use Rattle.extract.specs.Rules.{most_records}
-use Rattle.extract.proofs.Disk.{size_of, width_of, size-stored, width-stored}
+use Rattle.extract.proofs.Disk.{size-stored, width-stored}
 use Rattle.extract_lay.specs.Layover.{new_extract, new_records}
 use Rattle.extract_lay.proofs.Sorted.{over-sector}
 use Rattle.extract_lay.proofs.Laws.{new-good, new-records, new-stored}

@@ -1,5 +1,5 @@
 -- The listing's fixed words, and the lines made of them and of numbers. Assumes nothing.
-use Rattle.std.specs.Prelude.{ℕ, ◌+◌, List, [], ◌∷◌, ◌++◌}
+use Rattle.std.specs.Prelude.{ℕ, List, [], ◌∷◌, ◌++◌}
 use Rattle.read_listing.specs.Text.{decimal, newline}
 
 -- the fixed words: `disk `, ` align `, ` logical `, `refused `

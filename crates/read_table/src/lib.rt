@@ -3,7 +3,6 @@
 // For callers: `read_from`, `wanted`; it passes on `read_header`.
 #![tactic(auto)]
 
-
 ghost use Rattle.std.specs.Prelude.{◌≡◌, ◌≤◌, length, take};
 ghost use Rattle.base.specs.Said.{gives, refuses, failure, refusal};
 ghost use Rattle.record_mbr.specs.Mbr.{found};

@@ -1,5 +1,5 @@
 -- Free runs in a list that the caller lends: the array form's refusals, then 19 for fewer than thirty; the runs found stand first, the rest is as it was. Assumes nothing.
-use Rattle.std.specs.Prelude.{ℕ, ◌≤◌, ◌≡◌, List, [], ◌∷◌, ◌++◌, length, drop}
+use Rattle.std.specs.Prelude.{ℕ, ◌≤◌, ◌≡◌, List, [], ◌++◌, length, drop}
 use Rattle.base.specs.Said.{Said, gives, refuses, and_then, value_or}
 use Rattle.table.specs.declared.MBR.{MBR}
 use Rattle.table_free.specs.declared.Run.{Run}

@@ -408,7 +408,7 @@ def script(folder):
     done = subprocess.run([folder + "/twice", "list", "script.img"], cwd=folder, stdout=subprocess.PIPE)
     if done.returncode or done.stdout.decode() != listing[1]:
         fail("the script works through a link", done)
-    if (Path(STATION).parent / "target").is_dir():
+    if (Path(STATION).parent / "crates").is_dir():
         rebuilt(folder, path, listing)
         packed(folder, path, listing)
 
@@ -417,18 +417,19 @@ def rebuilt(folder, path, listing):
     """In a copy of the tree with a false rt: what is built, and when."""
     root, copy = Path(STATION).parent, Path(folder + "/tree")
     for name in ("crates", "tests"):
-        shutil.copytree(root / name, copy / name)
+        shutil.copytree(root / name, copy / name, ignore=shutil.ignore_patterns("out"))
     for name in ("station", "crates.txt"):
         shutil.copy2(root / name, copy / name)
     (copy / "tools").mkdir()
     rt = copy / "tools" / "rt"
-    rt.write_text(f'#!/bin/sh\nset -e\ncase $1 in doc) exec "{shutil.which("rt") or "false"}" doc ;; esac\necho "$@" >>"{copy}/asked"\n'
-                  'for n in base record_chs station_disk; do echo "rt: $n proved (1 s)"; echo more; done\n'
-                  f'mkdir -p target/bin && cp "{PROGRAM}" target/bin/station\n')
+    # It is started in the program's folder; the program stays in out/.
+    rt.write_text(f'#!/bin/sh\nset -e\ncase $1 in doc) exec "{shutil.which("rt") or "false"}" doc ;; esac\necho "$(basename "$PWD") $@" >>"{copy}/asked"\n'
+                  'for n in base record_chs station_disk; do echo "crate $n: modules loaded=1 checked=2"; echo more; done\n'
+                  f'mkdir -p out && cp "{PROGRAM}" out/station\n')
     rt.chmod(0o755)
     env = dict(os.environ, PATH=f"{copy}/tools:" + os.environ["PATH"])
     run = lambda *args: subprocess.run([str(copy / "station"), *args], env=env, stdout=subprocess.PIPE, stderr=subprocess.PIPE)
-    asked = lambda: (copy / "asked").read_text().count("check station") if (copy / "asked").exists() else 0
+    asked = lambda: (copy / "asked").read_text().count("station run") if (copy / "asked").exists() else 0
     told = [run("--help").stdout, run("push", "-h").stdout, run("--version").stdout]
     if asked() or told != [station(*args)[1].encode() for args in (("--help",), ("push", "-h"), ("--version",))]:
         fail("help needs no build", told)
@@ -441,7 +442,7 @@ def rebuilt(folder, path, listing):
         if done.returncode or done.stdout.decode() != listing[1] or asked() != want:
             fail("it is built when a source is newer", want, touched, asked(), done)
         if touched:
-            os.utime(copy / "target/bin/station", (then, then))
+            os.utime(copy / "crates/station/out/station", (then, then))
         if len(done.stderr.splitlines()) > 3 or not (copy / "target/station.log").read_text().count("more"):
             fail("the build shows a line that counts, and has the rest in a log", done.stderr)
     rt.write_text("#!/bin/sh\necho broken\nexit 1\n")

@@ -1,5 +1,5 @@
 -- The free runs of a table for a lent output. Assumes nothing.
-use Rattle.std.specs.Prelude.{ℕ, ◌*◌, List, [], ◌∷◌, length}
+use Rattle.std.specs.Prelude.{ℕ, ◌*◌, List, length}
 use Rattle.base.specs.Put.{put}
 use Rattle.base.specs.Said.{Said, gives, refuses, and_then}
 use Rattle.table.specs.declared.MBR.{MBR}

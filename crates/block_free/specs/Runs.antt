@@ -1,5 +1,5 @@
 -- Runs as bytes. Assumes nothing.
-use Rattle.std.specs.Prelude.{ℕ, List, ◌++◌, length}
+use Rattle.std.specs.Prelude.{ℕ, List, ◌++◌}
 use Rattle.base.specs.Bytes.{bytes_of, little}
 use Rattle.extract_lay.specs.Plan.{pieces}
 use Rattle.table_free.specs.declared.Run.{Run}

@@ -1,12 +1,12 @@
 -- Laws of `put`, of stores one by one, and of copies. Assumes nothing.
 use mathlib.Core.Path.{◌≡◌, refl, sym, ap, ◌∙◌}
 use mathlib.Core.List.{List, [], ◌∷◌, ◌++◌, append_assoc, append-nil}
-use Prim.Native.Nat.{ℕ, zero, suc, ◌+◌, ◌≤◌, ◌<◌}
+use Prim.Native.Nat.{ℕ, suc, ◌+◌, ◌≤◌, ◌<◌}
 use native.Mathlib.Nat.{add-zero, add-suc, add_assoc}
 use native.Mathlib.Numerals.{add-one}
 use native.Mathlib.Omega.{arith}
-use lib.ListN.{length, take, drop, get_or, set, length-append, length-drop, length-set, take-append-drop, drop_of_length-le}
-use lib.Seq.{sets, sets-eq, length-sets, length-take-le, take_at, drop_at, drop-append-add, drop-drop, paste, paste-suc, take-length}
+use lib.ListN.{length, take, drop, get_or, set, length-append, length-drop, take-append-drop, drop_of_length-le}
+use lib.Seq.{sets, sets-eq, length-take-le, take_at, drop-append-add, drop-drop, paste, paste-suc, take-length}
 use Rattle.base.specs.Bytes.{plus}
 use Rattle.base.specs.Put.{put, over, laid}
 use Rattle.base.proofs.Bytes.{plus-eq}

@@ -1,5 +1,5 @@
 -- A list with other elements laid over a part of it. Assumes nothing.
-use Rattle.std.specs.Prelude.{ℕ, zero, suc, ◌+◌, List, [], ◌∷◌, ◌++◌, length, take, drop, set}
+use Rattle.std.specs.Prelude.{ℕ, suc, ◌+◌, List, [], ◌∷◌, ◌++◌, length, take, drop, set}
 use Rattle.base.specs.Bytes.{plus}
 
 -- s with vs in the place of as many of its elements from index at on (rule G4)

@@ -1,5 +1,5 @@
 -- Rows: a fact about each element of a list and the element that follows it, or what follows the list. Assumes nothing.
-use Rattle.std.proofs.Math.Option.{Option, none, some}
+use Rattle.std.proofs.Math.Option.{Option, some}
 use Rattle.std.specs.Prelude.{List, [], ◌∷◌}
 
 -- what follows: the head of the list, or n

@@ -1,11 +1,10 @@
 -- Laws of CHS addresses and their bytes. Assumes nothing.
-use mathlib.Core.Path.{◌≡◌, refl, sym, ◌∙◌}
-use mathlib.Core.List.{List, [], ◌∷◌, ◌++◌}
-use Prim.Native.Nat.{ℕ, zero, suc, ◌+◌, ◌*◌, ◌/◌, ◌%◌, ◌<◌, ◌≤◌}
+use mathlib.Core.Path.{◌≡◌, refl}
+use mathlib.Core.List.{[], ◌∷◌}
+use Prim.Native.Nat.{ℕ, ◌+◌, ◌*◌, ◌/◌, ◌%◌, ◌<◌}
 use native.Mathlib.Omega.{arith}
-use lib.ListN.{length}
 use Rattle.base.specs.Bytes.{Bytes}
-use Rattle.base.specs.Said.{Said, gives, refuses, refusal_of}
+use Rattle.base.specs.Said.{refusal_of}
 use Rattle.base.proofs.Readings.{undone-injective, from_said}
 use Rattle.record_chs.specs.declared.CHS.{CHS}
 use Rattle.record_chs.specs.declared.Placed.{Placed}

@@ -1,8 +1,7 @@
 -- Products and remainders of small numbers. Assumes nothing.
-use mathlib.Core.Path.{◌≡◌, refl, sym, ap}
-use Prim.Native.Nat.{ℕ, ◌+◌, ◌*◌, ◌/◌, ◌%◌, ◌-◌, ◌<◌, ◌≤◌}
+use mathlib.Core.Path.{◌≡◌}
+use Prim.Native.Nat.{ℕ, ◌*◌, ◌/◌, ◌%◌, ◌<◌, ◌≤◌}
 use native.Mathlib.Nat.{mul-le-mul, mul-zero, mod-lt, div-lt_iff_lt-mul, pos_of_ne-zero, div-le_self}
-use native.Mathlib.Omega.{arith}
 
 -- a product under the product of the bounds
 pub under : (m n : ℕ) {a b : ℕ} → a ≤ m → b ≤ n → a * b ≤ m * n

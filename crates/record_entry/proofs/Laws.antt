@@ -1,16 +1,15 @@
 -- Laws of entries and their bytes. Assumes nothing.
-use mathlib.Core.Path.{◌≡◌, refl, sym, ap, subst, ◌∙◌}
-use mathlib.Core.List.{List, [], ◌∷◌, ◌++◌}
-use mathlib.Core.Bool.{Bool, true, false}
-use Prim.Native.Nat.{ℕ, zero, suc, ◌+◌, ◌*◌, ◌^◌, ◌<◌, ◌≤◌}
+use mathlib.Core.Path.{◌≡◌, refl, sym, ap, ◌∙◌}
+use mathlib.Core.List.{List, ◌++◌}
+use Prim.Native.Nat.{ℕ, ◌+◌, ◌<◌}
 use native.Mathlib.Nat.{add-zero, add_assoc}
 use native.Mathlib.Omega.{arith}
 use lib.ListN.{length, get_or, replicate}
 use lib.Seq.{get_or-append-add}
 use Rattle.base.specs.Bytes.{Bytes, bytes_at, number, bytes_of, little}
 use Rattle.base.proofs.Bytes.{byte_at, number-bytes_of, bytes_of-number, number-below}
-use Rattle.record_chs.specs.Chs.{chs_of, chs_bytes, ChsOk}
-use Rattle.record_chs.proofs.Laws.{chs-back, bytes_back, chs-ok, chs-bytes}
+use Rattle.record_chs.specs.Chs.{chs_of, chs_bytes}
+use Rattle.record_chs.proofs.Laws.{chs-back, bytes_back, chs-ok}
 use Rattle.record_entry.specs.declared.MBRPartitionEntry.{MBRPartitionEntry}
 use Rattle.record_entry.specs.Entry.{entry_at, entry_bytes, no_entry, EntryOk}
 

@@ -1,5 +1,5 @@
 -- A partition entry: flag, first CHS (3), type, last CHS (3), start, sectors, the last two u32 little-endian. Assumes nothing.
-use Rattle.std.specs.Prelude.{ℕ, ◌+◌, ◌<◌, ◌^◌, List, [], ◌∷◌, ◌++◌, Bool, not, ◌≡◌, get_or, eqb}
+use Rattle.std.specs.Prelude.{ℕ, ◌+◌, ◌<◌, ◌^◌, List, [], ◌∷◌, ◌++◌, Bool, not, get_or, eqb}
 use Rattle.base.specs.Pick.{among}
 use Rattle.base.specs.Bytes.{bytes_at, number, bytes_of, little}
 use Rattle.record_chs.specs.Chs.{chs_of, chs_bytes, no_chs, ChsOk}

@@ -1,7 +1,6 @@
 use Rattle.base.proofs.Put.{put-turn, put_all}
 use borrow.Author.Rules.{rules}
 use mathlib.Core.Path.{refl}
-use Prim.Native.Nat.{◌-◌}
 use lib.Seq.{paste-zero}
 use Rattle.base.proofs.copy_in.Goals as goal
 

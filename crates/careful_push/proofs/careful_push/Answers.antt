@@ -18,9 +18,9 @@ push_on-requires c =
 pub returns-in-Refused : goal.returns-in-Refused
 returns-in-Refused c =
     let are-bytes : Bytes c.args.x.now =
-        bytes-all c.args.x.now (λ i. (c.type_inv.x i).fits) in
+    bytes-all c.args.x.now (λ i. (c.type_inv.x i).fits) in
     let asked : Asked c.args.q =
-        record { sys = search rules; heads = search rules } in
+    record { sys = search rules; heads = search rules } in
     let h = sym c.read_from-r.ensures.answer_value ∙ ap refusal c.in-Refused.is in
     let p = push-unread c.args.x.now (length c.args.out.now) c.args.q c.args.out.now _ h in
     record { result_value = p.0; out_after = p.1; push_demand3 = push-demand3 c.args.x.now are-bytes c.args.out.now _ _ c.args.q asked p.0 p.1 }
@@ -28,9 +28,9 @@ returns-in-Refused c =
 pub returns-in-Done : goal.returns-in-Done
 returns-in-Done c =
     let are-bytes : Bytes c.args.x.now =
-        bytes-all c.args.x.now (λ i. (c.type_inv.x i).fits) in
+    bytes-all c.args.x.now (λ i. (c.type_inv.x i).fits) in
     let asked : Asked c.args.q =
-        record { sys = search rules; heads = search rules } in
+    record { sys = search rules; heads = search rules } in
     let h = sym c.read_from-r.ensures.answer_value ∙ ap refusal c.in-Done.is in
     let p = push-read c.args.x.now (length c.args.out.now) c.args.q c.push_on.result c.args.out.now _ _ h c.read_from-r.ensures.table_value c.push_on.ensures in
     record { result_value = p.0; out_after = p.1; push_demand3 = push-demand3 c.args.x.now are-bytes c.args.out.now _ _ c.args.q asked p.0 p.1 }

@@ -10,25 +10,25 @@ use Rattle.extract.proofs.check.Goals as goal
 pub returns-then-long-lt24 : goal.returns-then-long-lt24
 returns-then-long-lt24 c =
     let are-bytes : Bytes c.args.x.now =
-        bytes-all c.args.x.now (λ i. (c.type_inv.x i).fits) in
+    bytes-all c.args.x.now (λ i. (c.type_inv.x i).fits) in
     record { result_value = says-short _ c.if-long-lt24.true; bytes = are-bytes }
 
 pub lba_rules-requires : goal.lba_rules-requires
 lba_rules-requires c =
     let header-said : refusal c.header_rules.result ≡ first-fail (of_header c.args.x.now) =
-        c.header_rules.ensures
-        ∙ header-words
-        c.args.x.now
-        _
-        _
-        _
-        _
-        _
-        c.word_at-size.ensures
-        c.word_at-n.ensures
-        c.word_at-list.ensures
-        c.word_at-records.ensures
-        c.word_at-total.ensures in
+    c.header_rules.ensures
+    ∙ header-words
+    c.args.x.now
+    _
+    _
+    _
+    _
+    _
+    c.word_at-size.ensures
+    c.word_at-n.ensures
+    c.word_at-list.ensures
+    c.word_at-records.ensures
+    c.word_at-total.ensures in
     let h = sym header-said ∙ ap refusal c.in-Done.is in
     let r = header-room _ h in
     (omega arith, omega arith)
@@ -36,66 +36,66 @@ lba_rules-requires c =
 pub returns-in-Refused : goal.returns-in-Refused
 returns-in-Refused c =
     let are-bytes : Bytes c.args.x.now =
-        bytes-all c.args.x.now (λ i. (c.type_inv.x i).fits) in
+    bytes-all c.args.x.now (λ i. (c.type_inv.x i).fits) in
     let header-said : refusal c.header_rules.result ≡ first-fail (of_header c.args.x.now) =
-        c.header_rules.ensures
-        ∙ header-words
-        c.args.x.now
-        _
-        _
-        _
-        _
-        _
-        c.word_at-size.ensures
-        c.word_at-n.ensures
-        c.word_at-list.ensures
-        c.word_at-records.ensures
-        c.word_at-total.ensures in
+    c.header_rules.ensures
+    ∙ header-words
+    c.args.x.now
+    _
+    _
+    _
+    _
+    _
+    c.word_at-size.ensures
+    c.word_at-n.ensures
+    c.word_at-list.ensures
+    c.word_at-records.ensures
+    c.word_at-total.ensures in
     record { result_value = says-header _ _ c.if-long-lt24.false (sym header-said ∙ ap refusal c.in-Refused.is); bytes = are-bytes }
 
 pub returns-in-Refused-lba_rules : goal.returns-in-Refused-lba_rules
 returns-in-Refused-lba_rules c =
     let are-bytes : Bytes c.args.x.now =
-        bytes-all c.args.x.now (λ i. (c.type_inv.x i).fits) in
+    bytes-all c.args.x.now (λ i. (c.type_inv.x i).fits) in
     let header-said : refusal c.header_rules.result ≡ first-fail (of_header c.args.x.now) =
-        c.header_rules.ensures
-        ∙ header-words
-        c.args.x.now
-        _
-        _
-        _
-        _
-        _
-        c.word_at-size.ensures
-        c.word_at-n.ensures
-        c.word_at-list.ensures
-        c.word_at-records.ensures
-        c.word_at-total.ensures in
+    c.header_rules.ensures
+    ∙ header-words
+    c.args.x.now
+    _
+    _
+    _
+    _
+    _
+    c.word_at-size.ensures
+    c.word_at-n.ensures
+    c.word_at-list.ensures
+    c.word_at-records.ensures
+    c.word_at-total.ensures in
     let lbas-said : refusal c.lba_rules.result ≡ first-fail (of_lbas c.args.x.now) =
-        c.lba_rules.ensures ∙ rw (c.word_at-disk.ensures, c.word_at-n.ensures) in
+    c.lba_rules.ensures ∙ rw (c.word_at-disk.ensures, c.word_at-n.ensures) in
     let h = sym header-said ∙ ap refusal c.in-Done.is in
     record { result_value = says-lbas _ _ c.if-long-lt24.false h (sym lbas-said ∙ ap refusal c.in-Refused-lba_rules.is); bytes = are-bytes }
 
 pub returns-in-Done-lba_rules : goal.returns-in-Done-lba_rules
 returns-in-Done-lba_rules c =
     let are-bytes : Bytes c.args.x.now =
-        bytes-all c.args.x.now (λ i. (c.type_inv.x i).fits) in
+    bytes-all c.args.x.now (λ i. (c.type_inv.x i).fits) in
     let header-said : refusal c.header_rules.result ≡ first-fail (of_header c.args.x.now) =
-        c.header_rules.ensures
-        ∙ header-words
-        c.args.x.now
-        _
-        _
-        _
-        _
-        _
-        c.word_at-size.ensures
-        c.word_at-n.ensures
-        c.word_at-list.ensures
-        c.word_at-records.ensures
-        c.word_at-total.ensures in
+    c.header_rules.ensures
+    ∙ header-words
+    c.args.x.now
+    _
+    _
+    _
+    _
+    _
+    c.word_at-size.ensures
+    c.word_at-n.ensures
+    c.word_at-list.ensures
+    c.word_at-records.ensures
+    c.word_at-total.ensures in
     let lbas-said : refusal c.lba_rules.result ≡ first-fail (of_lbas c.args.x.now) =
-        c.lba_rules.ensures ∙ rw (c.word_at-disk.ensures, c.word_at-n.ensures) in
+    c.lba_rules.ensures ∙ rw (c.word_at-disk.ensures, c.word_at-n.ensures) in
     let h = sym header-said ∙ ap refusal c.in-Done.is in
     let l = sym lbas-said ∙ ap refusal c.in-Done-lba_rules.is in
     record { result_value = rw (c.word_at-size.ensures, c.word_at-disk.ensures, c.word_at-n.ensures) (says-good _ c.if-long-lt24.false h l); bytes = are-bytes }

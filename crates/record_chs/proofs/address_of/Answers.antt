@@ -1,7 +1,7 @@
 use native.Mathlib.Nat.{lt_trans, lt_of_le_of_lt}
 use native.Mathlib.Omega.{arith}
 use lib.Dec.{lit<}
-use Rattle.record_chs.proofs.Small.{under, right-pos, head-fits, sector-fits}
+use Rattle.record_chs.proofs.Small.{under, head-fits, sector-fits}
 use borrow.Author.Rules.{rules}
 use Rattle.record_chs.proofs.address_of.Goals as goal
 

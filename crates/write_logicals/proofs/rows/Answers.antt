@@ -15,7 +15,7 @@ use Rattle.write_logicals.proofs.rows.Goals as goal
 pub returns-then-n-eq0 : goal.returns-then-n-eq0
 returns-then-n-eq0 c =
     let long : length (as_written_in (table_in c.args.b.now) c.args.x) ≡ (table_in c.args.b.now).count =
-        settled-long (table_in c.args.b.now) c.args.x (held-long c.args.b.now c.requires.0) in
+    settled-long (table_in c.args.b.now) c.args.x (held-long c.args.b.now c.requires.0) in
     sym (rows_none c.args.d (as_written_in (table_in c.args.b.now) c.args.x) (omega (arith, long, c.count-n.ensures, c.if-n-eq0.true)))
 
 pub written_slot-l-requires : goal.written_slot-l-requires
@@ -25,7 +25,7 @@ written_slot-l-requires c =
 pub loop-i-init : goal.loop-i-init
 loop-i-init c =
     let long : length (as_written_in (table_in c.args.b.now) c.args.x) ≡ (table_in c.args.b.now).count =
-        settled-long (table_in c.args.b.now) c.args.x (held-long c.args.b.now c.requires.0) in
+    settled-long (table_in c.args.b.now) c.args.x (held-long c.args.b.now c.requires.0) in
     let ls = as_written_in (table_in c.args.b.now) c.args.x in
     (omega (arith, c.if-n-eq0.false), rows-first c.args.d ls (omega (arith, long, c.count-n.ensures, c.if-n-eq0.false)) ∙ ap (λ (l : LogicalPartition). first-fail (all_rows c.args.d (l ∷ drop 1 ls))) (sym c.written_slot-l.ensures))
 
@@ -36,7 +36,7 @@ written_slot-m-requires c =
 pub returns-in-Refused : goal.returns-in-Refused
 returns-in-Refused c =
     let long : length (as_written_in (table_in c.args.b.now) c.args.x) ≡ (table_in c.args.b.now).count =
-        settled-long (table_in c.args.b.now) c.args.x (held-long c.args.b.now c.requires.0) in
+    settled-long (table_in c.args.b.now) c.args.x (held-long c.args.b.now c.requires.0) in
     let ls = as_written_in (table_in c.args.b.now) c.args.x in
     let h : c.loop-i.i < length ls = omega (arith, long, c.count-n.ensures, c.loop-i-test.true) in
     sym (c.loop-i.invariant.1 ∙ rows-fails c.args.d ls c.loop-i.l _ c.loop-i.i h (sym c.written_slot-m.ensures) _ _ c.has_link-follows.ensures c.row-a.ensures _ (ap refusal c.in-Refused.is))
@@ -44,7 +44,7 @@ returns-in-Refused c =
 pub loop-i-preserved : goal.loop-i-preserved
 loop-i-preserved c =
     let long : length (as_written_in (table_in c.args.b.now) c.args.x) ≡ (table_in c.args.b.now).count =
-        settled-long (table_in c.args.b.now) c.args.x (held-long c.args.b.now c.requires.0) in
+    settled-long (table_in c.args.b.now) c.args.x (held-long c.args.b.now c.requires.0) in
     let ls = as_written_in (table_in c.args.b.now) c.args.x in
     let h : c.loop-i.i < length ls = omega (arith, long, c.count-n.ensures, c.loop-i-test.true) in
     (search rules, c.loop-i.invariant.1 ∙ rows-holds c.args.d ls c.loop-i.l _ c.loop-i.i h (sym c.written_slot-m.ensures) _ _ c.has_link-follows.ensures c.row-a.ensures (ap refusal c.in_default.is))
@@ -52,7 +52,7 @@ loop-i-preserved c =
 pub returns : goal.returns
 returns c =
     let long : length (as_written_in (table_in c.args.b.now) c.args.x) ≡ (table_in c.args.b.now).count =
-        settled-long (table_in c.args.b.now) c.args.x (held-long c.args.b.now c.requires.0) in
+    settled-long (table_in c.args.b.now) c.args.x (held-long c.args.b.now c.requires.0) in
     let ls = as_written_in (table_in c.args.b.now) c.args.x in
     let i : c.loop-i.i ≡ length ls = omega (arith, long, c.count-n.ensures, c.loop-i.invariant.0, c.loop-i-test.false) in
     c.row.ensures ∙ sym (c.loop-i.invariant.1 ∙ rows_end c.args.d ls c.loop-i.l c.loop-i.i i)

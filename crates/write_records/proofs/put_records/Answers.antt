@@ -129,15 +129,15 @@ loop-i-preserved c =
     let s : Given c.args.x.now c.args.n c.args.m c.args.first.now c.args.p c.args.b.now c.args.e = record { writing = c.requires.writing.0; plan = c.requires.writing.1; passed = c.requires.passed.0; number = c.requires.passed.1; few = c.requires.count_le_most_records.0; slots = search rules } in
     let h : c.loop-i.i < c.args.p.count = c.loop-i-test.true in
     let t : c.if-s-lt-EBR_SOURCE.out ≡ put c.loop-i.out (c.args.at + c.loop-i.i * 512) (f s (slot s c.loop-i.i h)) =
-        let first : Store = record { lba = 0; bytes = c.args.first.now } in
-        let there = put c.loop-i.out (c.args.at + c.loop-i.i * 512) in
-        let e = c.args.e in
-        let q = slot s c.loop-i.i h in
-        elim c.if-s-lt-EBR_SOURCE.branch [
-          | then-s-lt-EBR_SOURCE w ↦ w.out-is ∙ w.put_kept.ensures ∙ ap there (kept-bytes c.args.x.now first (ebr_stores e (ls s)) q.source w.if-s-lt-EBR_SOURCE.true)
-          | else-s-lt-EBR_SOURCE+then-j-m w ↦ w.out-is ∙ w.put_ebr.ensures ∙ ap there (ebr-bytes c.args.x.now first e (ls s) q.source _ _ w.if-s-lt-EBR_SOURCE.false (within s _ (one s c.loop-i.i h w.if-s-lt-EBR_SOURCE.false)) (sym w.written_slot-l.ensures) (w.link_to.ensures ∙ link-some e (ls s) _ _ (within s _ w.if-j-m.true) (sym w.written_slot-f.ensures)))
-          | else-s-lt-EBR_SOURCE+else-j-m w ↦ w.out-is ∙ w.put_ebr-else-j-m.ensures ∙ ap there (ebr-bytes c.args.x.now first e (ls s) q.source _ _ w.if-s-lt-EBR_SOURCE.false (within s _ (one s c.loop-i.i h w.if-s-lt-EBR_SOURCE.false)) (sym w.written_slot-l.ensures) (w.empty.ensures ∙ link-none e (ls s) (q.source - ebr_source + 1) (omega (arith, many s, w.if-j-m.false))))
-        ] in
+    let first : Store = record { lba = 0; bytes = c.args.first.now } in
+    let there = put c.loop-i.out (c.args.at + c.loop-i.i * 512) in
+    let e = c.args.e in
+    let q = slot s c.loop-i.i h in
+    elim c.if-s-lt-EBR_SOURCE.branch [
+      | then-s-lt-EBR_SOURCE w ↦ w.out-is ∙ w.put_kept.ensures ∙ ap there (kept-bytes c.args.x.now first (ebr_stores e (ls s)) q.source w.if-s-lt-EBR_SOURCE.true)
+      | else-s-lt-EBR_SOURCE+then-j-m w ↦ w.out-is ∙ w.put_ebr.ensures ∙ ap there (ebr-bytes c.args.x.now first e (ls s) q.source _ _ w.if-s-lt-EBR_SOURCE.false (within s _ (one s c.loop-i.i h w.if-s-lt-EBR_SOURCE.false)) (sym w.written_slot-l.ensures) (w.link_to.ensures ∙ link-some e (ls s) _ _ (within s _ w.if-j-m.true) (sym w.written_slot-f.ensures)))
+      | else-s-lt-EBR_SOURCE+else-j-m w ↦ w.out-is ∙ w.put_ebr-else-j-m.ensures ∙ ap there (ebr-bytes c.args.x.now first e (ls s) q.source _ _ w.if-s-lt-EBR_SOURCE.false (within s _ (one s c.loop-i.i h w.if-s-lt-EBR_SOURCE.false)) (sym w.written_slot-l.ensures) (w.empty.ensures ∙ link-none e (ls s) (q.source - ebr_source + 1) (omega (arith, many s, w.if-j-m.false))))
+    ] in
     let k : c.loop-i.i < length (ts s) = omega (arith, long s) in
     let w = each_at (λ q. length (f s q) ≡ 512) (ts s) c.loop-i.i no_slot k (wide s) in
     let r = t ∙ ap (λ (q : Slot). put c.loop-i.out (c.args.at + c.loop-i.i * 512) (f s q)) (sym (taken s c.loop-i.i h)) in

@@ -8,7 +8,7 @@ use Rattle.careful_stores.proofs.ebr_store.put_ebr.Goals as goal
 pub returns : goal.returns
 returns c =
     let code-long : length c.args.l.kept.bootstrap_code ≡ 446 =
-        (search rules) in
+    (search rules) in
     let mark-long : length c.args.l.kept.mark ≡ mark_length =
-        (search rules) in
+    (search rules) in
     ebr-written c.args.out.now _ _ c.args.at c.args.l _ c.args.link c.ebr_with-h.ensures mark-long code-long c.requires c.put32.ensures c.write_at.ensures

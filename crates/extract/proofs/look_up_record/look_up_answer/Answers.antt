@@ -16,7 +16,7 @@ pub returns-then-lba-e : goal.returns-then-lba-e
 unfolding look_says
 returns-then-lba-e c =
     let told : Good c.args.x.now × (c.in-Good.e ≡ header_of c.args.x.now) =
-        good-told c.args.x.now c.in-Good.e (sym (ap header_said c.in-Good.is) ∙ c.check.ensures.result_value) c.check.ensures.bytes in
+    good-told c.args.x.now c.in-Good.e (sym (ap header_said c.in-Good.is) ∙ c.check.ensures.result_value) c.check.ensures.bytes in
     let t = told in
     let h : c.args.lba < disk_sectors c.args.x.now = rw t.1 at c.if-lba-e.true in
     sym (look-good c.args.x.now c.args.lba some none t.0 h)
@@ -25,7 +25,7 @@ pub returns-else-lba-e : goal.returns-else-lba-e
 unfolding look_says
 returns-else-lba-e c =
     let told : Good c.args.x.now × (c.in-Good.e ≡ header_of c.args.x.now) =
-        good-told c.args.x.now c.in-Good.e (sym (ap header_said c.in-Good.is) ∙ c.check.ensures.result_value) c.check.ensures.bytes in
+    good-told c.args.x.now c.in-Good.e (sym (ap header_said c.in-Good.is) ∙ c.check.ensures.result_value) c.check.ensures.bytes in
     let t = told in
     let h : disk_sectors c.args.x.now ≤ c.args.lba = rw t.1 at c.if-lba-e.false in
     sym (look-past c.args.x.now c.args.lba some none t.0 h)

@@ -2,7 +2,6 @@ use Prim.Native.Nat.{◌-◌}
 use native.Mathlib.Omega.{arith}
 use Rattle.base.proofs.Tests.{tests}
 use Rattle.record_chs.proofs.Small.{quotient}
-use borrow.Author.Rules.{rules}
 use Rattle.record_chs.proofs.CHS.from_lba_aligned.Goals as goal
 
 -- TODO div-next : tie.Need-nonzero-div-next

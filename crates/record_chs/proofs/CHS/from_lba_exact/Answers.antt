@@ -1,5 +1,4 @@
 use Rattle.base.proofs.Tests.{tests}
-use borrow.Author.Rules.{rules}
 use Rattle.record_chs.proofs.CHS.from_lba_exact.Goals as goal
 
 -- TODO div-cylinder : tie.Need-nonzero-div-cylinder

@@ -14,14 +14,14 @@ use Rattle.table_remove.proofs.without.shifted.Goals as goal
 pub loop-j-init : goal.loop-j-init
 loop-j-init c =
     let long : length c.args.t.logical_partitions ≡ most =
-        (search rules) in
+    (search rules) in
     let t : MBR = c.args.t in
     (search rules, (long, ap (λ (l : List LogicalPartition). with_logicals t l t.count) (none t.logical_partitions c.args.k)))
 
 pub loop-j-preserved : goal.loop-j-preserved
 loop-j-preserved c =
     let long : length c.args.t.logical_partitions ≡ most =
-        (search rules) in
+    (search rules) in
     let t : MBR = c.args.t in
     let h = long in
     let e : c.loop-j.u.logical_partitions ≡ paste t.logical_partitions c.args.k (drop (c.args.k + 1) t.logical_partitions) c.loop-j.j = ap (λ (v : MBR). v.logical_partitions) c.loop-j.invariant.1.1 in

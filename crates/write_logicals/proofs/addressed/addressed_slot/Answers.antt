@@ -17,7 +17,10 @@ returns c =
     let l = c.placed_slot-l.result in
     let g = c.geometry.ensures in
     let m = get_or (first_at_start c.args.x (logicals t)) c.args.i no_logical in
-    record { answer_value = c.with_geometry.ensures.answer_value ∙ ap (λ (g : Geometry). first-fail (slot_geometry g l)) g ∙ ap (λ (l : LogicalPartition). first-fail (slot_geometry q l)) c.placed_slot-l.ensures; logical_value = c.with_geometry.ensures.logical_value
+    record {
+      answer_value = c.with_geometry.ensures.answer_value ∙ ap (λ (g : Geometry). first-fail (slot_geometry g l)) g ∙ ap (λ (l : LogicalPartition). first-fail (slot_geometry q l)) c.placed_slot-l.ensures;
+      logical_value = c.with_geometry.ensures.logical_value
           ∙ ap (λ (g : Geometry). checked (slot_geometry g l) (λ _. l) (by_geometry g l)) g
           ∙ ap (λ (l : LogicalPartition). checked (slot_geometry q l) (λ _. l) (by_geometry q l)) c.placed_slot-l.ensures
-          ∙ ap (checked (slot_geometry q m) (λ _. m)) (sym (settled_at q c.args.x c.args.i (logicals t) (held_in c.args.b.now c.requires.0 c.args.x c.args.i c.requires.1))) }
+          ∙ ap (checked (slot_geometry q m) (λ _. m)) (sym (settled_at q c.args.x c.args.i (logicals t) (held_in c.args.b.now c.requires.0 c.args.x c.args.i c.requires.1)));
+    }

@@ -10,7 +10,7 @@ use native.Mathlib.Omega.{arith}
 use borrow.Author.Tests.{le-leb, lt-leb}
 use lib.Dec.{leb}
 use lib.ListN.{length, get_or, take, drop, set}
-use lib.Seq.{paste, paste-suc, length-take-le}
+use lib.Seq.{paste, paste-suc, length-paste, length-take-le}
 use Rattle.base.specs.Said.{Said, gives, refuses, refusal, and_then, value_or, refusal_of}
 use Rattle.base.specs.Checks.{◌!◌, answer}
 use Rattle.base.proofs.Readings.{undone-injective, from_said}
@@ -115,6 +115,9 @@ laid-suc rs l i z hl hs =
     ∙ paste-suc l 0 rs i z (omega (arith, hl)) hs
     ∙ sym (laid-is rs l (suc i))
     ∙ ap (laid rs l) (sym (add-one i))
+
+pub length-laid : (rs l : List Run) (k : ℕ) → k ≤ length l → k ≤ length rs → length (laid rs l k) ≡ length l
+length-laid rs l k hl hs = ap length (laid-is rs l k) ∙ length-paste l 0 rs k (omega (arith, hl)) hs
 
 -- once all are stored that the plan has, the list is the contract's
 pub laid-all : (rs l fs : List Run) (k : ℕ) → k ≤ length rs → take k rs ≡ fs → laid rs l k ≡ first fs l

@@ -10,7 +10,7 @@ use lib.Dec.{eqb}
 use borrow.Author.Tests.{eq-eqb, ne_eqb}
 use Rattle.base.specs.Pick.{pick}
 use Rattle.base.specs.Checks.{Check, checked}
-use Rattle.extract.specs.Extract.{count, lba_at, lbas_from, lbas, record_at, records_from, record_in, record_of, look_checks, looked_up, Good}
+use Rattle.extract.specs.Extract.{count, lba_at, lbas_from, lbas, record_at, records_from, record_in, look_checks, looked_up, Good}
 use Rattle.extract.proofs.Good.{lba-less}
 use Rattle.abi_extract.specs.Place.{record_place, looked_place, record_there}
 

@@ -253,6 +253,12 @@ def words(folder):
             skipped.append("an image of too many sectors (no room for its size)")
         else:
             expect(("list", folder + "/odd.img"), 1, "", "refused 1: more than 4294967295 sectors")
+    for name in (b"z\xc3\xa4hne.img", b"\xe4.img"):
+        odd = make(os.fsdecode(folder.encode() + b"/" + name))
+        expect(("list", odd), 0, "7 83 00 18432 2048")
+        expect(("remove", odd, 5, "--dry-run"), 0, "done")
+        expect(("remove", odd, 5), 0, "done")
+        expect(("list", odd), 0, "6 83 00 18432 2048")
     make(path)
     poke(path, 12288 * 512 + 462, entry(0x05, 4096, 4096))
     expect(("list", path), 1, "", "refused 5: a link leads back: likely a chain not in disk order, as fdisk and parted leave it")

@@ -14,7 +14,7 @@ use Rattle.base.specs.Said.{gives}
 use Rattle.base.specs.Row.{next}
 use Rattle.base.proofs.Checks.{hold-left, hold-right}
 use Rattle.record_entry.specs.declared.MBRPartitionEntry.{MBRPartitionEntry}
-use Rattle.record_entry.specs.Entry.{no_entry, used, extended, end_of}
+use Rattle.record_entry.specs.Entry.{no_entry, extended, end_of}
 use Rattle.extract.specs.Disk.{Disk, Store}
 use Rattle.table.specs.declared.LogicalPartition.{LogicalPartition}
 use Rattle.table.specs.Table.{most}

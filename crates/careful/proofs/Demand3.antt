@@ -28,7 +28,7 @@ use Rattle.read_table.proofs.Collect.{collected-reads}
 use Rattle.table_push.specs.declared.request.Request.{Request}
 use Rattle.table_push.specs.Push.{push_table}
 use Rattle.table_remove.specs.Remove.{removed_table}
-use Rattle.sound.specs.Sound.{Contents, contents_of}
+use Rattle.sound.specs.Sound.{Contents}
 use Rattle.careful.specs.Careful.{contents, Change, push_refusals, push_change, remove_refusals, remove_change, as_asked, changing, careful_push_says, careful_remove_says}
 use Rattle.careful.specs.Output.{store_bytes, stores_bytes, stores_in, out_after, count_of, stores_counted}
 use Rattle.careful.specs.Demand3.{Whole, contents_on, Safe, Refused, Accepted, Demand3, Pushes, Removes, after_push, after_removal, PushDemand3, RemoveDemand3}

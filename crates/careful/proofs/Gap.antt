@@ -1,28 +1,25 @@
 -- On a sound table the two comparisons of refusal 21 say that nothing stands in the way of a new partition. Assumes nothing.
-use mathlib.Core.Path.{◌≡◌, refl, sym, subst}
+use mathlib.Core.Path.{◌≡◌, refl}
 use mathlib.Core.Logic.{◌⊎◌, inl, inr}
 use mathlib.Core.Option.{none, some}
 use mathlib.Core.Bool.{Bool, true, false, ◌&&◌}
 use mathlib.Core.List.{List, [], ◌∷◌}
-use Prim.Native.Nat.{ℕ, suc, ◌+◌, ◌≤◌, ◌<◌}
+use Prim.Native.Nat.{ℕ, suc, ◌≤◌, ◌<◌}
 use native.Mathlib.Omega.{arith}
-use lib.Dec.{leb, ltb}
-use lib.ListN.{length, take, drop}
+use lib.Dec.{leb}
+use lib.ListN.{take, drop}
 use borrow.Author.Tests.{leb-true, leb-false, le-leb, lt-leb, ne_eqb}
-use Rattle.base.specs.Pick.{pick}
 use Rattle.base.specs.Row.{next, Row}
 use Rattle.record_entry.specs.declared.MBRPartitionEntry.{MBRPartitionEntry}
 use Rattle.record_entry.specs.Entry.{end_of}
 use Rattle.table.specs.declared.LogicalPartition.{LogicalPartition}
 use Rattle.chain.specs.Facts.{at, start}
 use Rattle.sound.specs.Is.{Is}
-use Rattle.sound.specs.Sound.{Contents, extended_entry, Vacant, end, bound, Sound}
+use Rattle.sound.specs.Sound.{Contents, extended_entry, end, bound, Sound}
 use Rattle.sound.proofs.Is.{is_le, is-and, is-as}
-use Rattle.sound.proofs.Good.{Place, Good, vacant-of, zone-end, vacant-end, sound-row}
-use Rattle.careful_stores.specs.Order.{up_to, order_at, earlier, behind_at, later_one, last_logical, last_listed}
-use Rattle.careful_stores.specs.Space.{end_behind}
+use Rattle.sound.proofs.Good.{Place, Good, zone-end, vacant-end, sound-row}
+use Rattle.careful_stores.specs.Order.{up_to, order_at, earlier, behind_at, last_logical, last_listed}
 use Rattle.careful.specs.Gap.{Any, Overlaps, OnEbr, Parts, Blocked, in_gap}
-use Rattle.careful.specs.Demand3.{In}
 use Rattle.careful.proofs.Places.{Fit, good-fit, fit_of, Over, row-over}
 
 -- the comparison is made, and its fact kept

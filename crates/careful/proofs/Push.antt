@@ -20,7 +20,7 @@ use Rattle.extract.proofs.Disk.{sector-other, size-stored, width-stored}
 use Rattle.table.specs.declared.MaybeChs.TheVariants.{Present as SomeChs}
 use Rattle.table.specs.declared.LogicalPartition.{LogicalPartition}
 use Rattle.table.specs.Table.{most}
-use Rattle.chain.specs.Facts.{seen, at, start, link_in, body_of, leads, Held}
+use Rattle.chain.specs.Facts.{seen, at, link_in, body_of, leads, Held}
 use Rattle.sound.specs.Sound.{Contents, extended_entry, end, Sound}
 use Rattle.sound.proofs.Good.{Good, Span}
 use Rattle.sound.proofs.Test.{is-flag}

@@ -20,7 +20,7 @@ use Rattle.extract.specs.Extract.{blank}
 use Rattle.extract.proofs.Disk.{sector-other, size-stored, width-stored, record-blank}
 use Rattle.table.specs.declared.LogicalPartition.{LogicalPartition}
 use Rattle.table.specs.Table.{most}
-use Rattle.chain.specs.Facts.{bad, viewed, seen, at, start, link_in, body_of, leads, Held}
+use Rattle.chain.specs.Facts.{bad, viewed, seen, at, link_in, body_of, leads, Held}
 use Rattle.sound.specs.Sound.{Contents, extended_entry, vacantb, end, Sound}
 use Rattle.sound.proofs.Good.{Zone, Place, Good, zone-end, vacant-end, Area, area_of, extended-small}
 use Rattle.chain.specs.Links.{write}

@@ -28,7 +28,7 @@ use Rattle.table.specs.declared.MaybeSectors.TheVariants.{Present}
 use Rattle.table.specs.declared.MaybeChs.TheVariants.{Present as SomeChs}
 use Rattle.table.specs.declared.LogicalPartition.{LogicalPartition}
 use Rattle.chain.specs.Chain.{view, Link, link_of, by_link}
-use Rattle.chain.specs.Facts.{Body, Next, stop, to, View, ebr, next_of, body_in, viewed, seen, at, start, body_of, leads, Held}
+use Rattle.chain.specs.Facts.{Body, Next, stop, to, View, ebr, next_of, body_in, viewed, seen, at, body_of, leads, Held}
 use Rattle.chain.proofs.View.{view→facts, view-inside, view-same, Seen, seen→view}
 use Rattle.chain.specs.Links.{link_entry, ebr_for, write}
 use Rattle.careful.specs.Demand3.{Whole}

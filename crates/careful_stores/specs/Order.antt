@@ -1,6 +1,6 @@
 -- Where a new partition goes among others: its place in the order, the one before it and the one behind it. Assumes nothing.
 use Rattle.std.specs.Prelude.{ℕ, suc, List, [], ◌∷◌, leb, take, drop}
-use Rattle.std.proofs.Math.Option.{Option, none, some}
+use Rattle.std.proofs.Math.Option.{Option, none}
 use Rattle.base.specs.Pick.{pick}
 use Rattle.base.specs.Row.{next}
 use Rattle.record_entry.specs.declared.MBRPartitionEntry.{MBRPartitionEntry}

@@ -1,9 +1,9 @@
 -- What an answer says determines it; of what is met at a sector, with the record that it stands in. Assumes nothing.
-use mathlib.Core.Path.{◌≡◌, refl, sym, ap, ◌∙◌}
+use mathlib.Core.Path.{◌≡◌, refl, sym, ◌∙◌}
 use mathlib.Core.List.{List}
-use mathlib.Core.Option.{Option, none, some}
+use mathlib.Core.Option.{Option}
 use Prim.Native.Nat.{ℕ}
-use Rattle.base.specs.Said.{Said, gives, refuses, refusal_of}
+use Rattle.base.specs.Said.{Said, refusal_of}
 use Rattle.base.proofs.Readings.{undone-injective, undone-injective-on, from_said, from_option}
 use Rattle.record_ebr.specs.declared.EBRHeader.{EBRHeader}
 use Rattle.extract.specs.Extract.{Good}

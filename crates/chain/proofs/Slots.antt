@@ -13,7 +13,7 @@ use Rattle.base.specs.Row.{next, Row}
 use Rattle.record_entry.specs.declared.MBRPartitionEntry.{MBRPartitionEntry}
 use Rattle.record_ebr.specs.declared.EBRHeader.{EBRHeader}
 use Rattle.record_ebr.specs.Ebr.{ebr_of}
-use Rattle.extract.specs.Extract.{Good, count, lba_at, record_at, disk_of, blank}
+use Rattle.extract.specs.Extract.{Good, lba_at, record_at, disk_of, blank}
 use Rattle.extract.proofs.Disk.{sector-of}
 use Rattle.extract.proofs.Halves.{found-is}
 use Rattle.table.specs.declared.LogicalPartition.{LogicalPartition}

@@ -25,7 +25,6 @@ use Rattle.table.specs.declared.LogicalPartition.{LogicalPartition}
 use Rattle.table.specs.Table.{most}
 use Rattle.chain.specs.declared.Head.{Head}
 use Rattle.chain.specs.Chain.{view, Link, first_link, link_of, placed, join, by_link, follows, follows_in, chain, logicals_of}
-use Rattle.chain.specs.Facts.{at}
 use Rattle.chain.specs.Walk.{lack_of, ebr_in, HeadAt, before, places, places_from, places_of, counted, NotedAll}
 use Rattle.chain.proofs.Decision.{follows→facts}
 use Rattle.chain.proofs.Rows.{chain-stop, chain-on}

@@ -1,6 +1,6 @@
 -- What each answer of the crate says: a value, or a refusal's number. Assumes nothing.
 use Rattle.std.specs.Prelude.{ℕ, ◌*◌, List, [], ◌∷◌}
-use Rattle.std.proofs.Math.Option.{Option, none, some}
+use Rattle.std.proofs.Math.Option.{Option}
 use Rattle.base.specs.Said.{Said, gives, refuses}
 use Rattle.base.specs.Checks.{◌!◌, answer, first-fail}
 use Rattle.extract.specs.declared.Extract.{Extract}

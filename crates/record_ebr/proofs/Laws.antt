@@ -1,26 +1,23 @@
 -- Laws of EBR records. Assumes nothing.
 use mathlib.Core.Path.{◌≡◌, refl, sym, ap, ◌∙◌}
-use mathlib.Core.Bool.{Bool, true, false, ◌&&◌}
+use mathlib.Core.Bool.{true}
 use mathlib.Core.Option.{none}
-use mathlib.Core.List.{List, [], ◌∷◌, ◌++◌, append_assoc}
-use Prim.Native.Nat.{ℕ, zero, suc, ◌+◌, ◌<◌, ◌≤◌}
+use mathlib.Core.List.{List, ◌++◌, append_assoc}
+use Prim.Native.Nat.{ℕ, ◌+◌, ◌≤◌}
 use native.Mathlib.Omega.{arith}
 use lib.ListN.{length, take, drop, get_or, length-append, length-drop, length-replicate}
 use lib.Seq.{take_at, drop_at, get_or-append-add, length-take-le}
-use Rattle.base.specs.Bytes.{Bytes, Record, stands_at, signature}
-use Rattle.base.specs.Said.{Said, gives, refuses, refusal_of}
-use Rattle.base.specs.Checks.{first-fail, AllHold}
+use Rattle.base.specs.Bytes.{Record, stands_at, signature}
+use Rattle.base.specs.Said.{refusal_of}
+use Rattle.base.specs.Checks.{first-fail}
 use Rattle.base.proofs.Bytes.{bytes-append, bytes-zeros, bytes_take, bytes_drop}
 use Rattle.base.proofs.Readings.{undone-injective, from_said}
-use Rattle.record_entry.specs.declared.MBRPartitionEntry.{MBRPartitionEntry}
 use Rattle.record_entry.specs.Entry.{entry_at, entry_bytes, flag_ok, EntryOk}
 use Rattle.record_entry.proofs.Laws.{entry_past, entry-back, entry-ok, entry-bytes}
-use Rattle.record_ebr.specs.declared.Kept.{Kept}
 use Rattle.record_ebr.specs.declared.EBRHeader.{EBRHeader}
-use Rattle.record_ebr.specs.declared.Entries.{Entries}
 use Rattle.record_ebr.specs.declared.Opened.{Opened}
 use Rattle.record_ebr.specs.declared.Opened.TheVariants.{Ebr, Refused}
-use Rattle.record_ebr.specs.Ebr.{mark_length, mark_offset, kept_at, kept_of, entries_of, ebr_of, marked, ebr_bytes, ebr_read_checks, no_mark, no_kept, MarkOk, KeptOk, EbrOk, opened}
+use Rattle.record_ebr.specs.Ebr.{mark_length, mark_offset, kept_at, kept_of, ebr_of, marked, ebr_bytes, ebr_read_checks, no_mark, no_kept, MarkOk, KeptOk, EbrOk, opened}
 
 -- what an answer says determines it
 pub opened-injective : (a b : Opened) → opened a ≡ opened b → a ≡ b

@@ -1,7 +1,6 @@
 -- An EBR: code 446, partition entry, link entry, mark 32, 55 AA. Assumes nothing.
-use Rattle.std.specs.Prelude.{ℕ, ◌≤◌, List, [], ◌∷◌, ◌++◌, Bool, true, ◌≡◌, length, take, drop, replicate}
+use Rattle.std.specs.Prelude.{ℕ, List, [], ◌∷◌, ◌++◌, ◌≡◌, length, take, drop, replicate}
 use Rattle.base.specs.Bytes.{Bytes, signature, stands_at}
-use Rattle.base.specs.Put.{put}
 use Rattle.base.specs.Said.{Said, gives, refuses}
 use Rattle.base.specs.Checks.{Check, ◌!◌, record_check, record_room}
 use Rattle.record_entry.specs.Entry.{entry_at, entry_bytes, no_entry, flag_ok, EntryOk}

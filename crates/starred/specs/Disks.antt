@@ -1,6 +1,5 @@
 -- The two disks of the scope document's numbers, and what is asked of them. Assumes nothing.
 use Rattle.std.specs.Prelude.{ℕ, List, [], ◌∷◌, ◌++◌, map, eqb, replicate}
-use Rattle.std.proofs.Math.Option.{Option}
 use Rattle.base.specs.Pick.{pick}
 use Rattle.base.specs.Said.{Said, gives, refuses, and_then}
 use Rattle.record_chs.specs.Chs.{no_chs}

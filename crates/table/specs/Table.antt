@@ -1,22 +1,15 @@
 -- The table: header, logical partitions, and what no disk holds. Assumes nothing.
-use Rattle.std.specs.Prelude.{ℕ, ◌+◌, ◌-◌, ◌*◌, ◌/◌, List, [], ◌∷◌, ◌++◌, map, Bool, ◌≡◌, eqb, ltb, leb, length, get_or, take, drop, set, replicate}
-use Rattle.std.proofs.Math.Option.{Option, none, some}
-use Rattle.std.proofs.Math.Seq.{paste}
-use Rattle.base.specs.Pick.{pick}
+use Rattle.std.specs.Prelude.{ℕ, ◌+◌, ◌-◌, ◌*◌, ◌/◌, List, [], ◌++◌, map, leb, length, take, replicate}
+use Rattle.std.proofs.Math.Option.{Option}
 use Rattle.base.specs.Checks.{Check, ◌!◌}
-use Rattle.record_chs.specs.declared.CHS.{CHS}
 use Rattle.record_chs.specs.Chs.{no_chs}
 use Rattle.record_entry.specs.declared.MBRPartitionEntry.{MBRPartitionEntry}
 use Rattle.record_entry.specs.Entry.{no_entry}
 use Rattle.record_ebr.specs.declared.Kept.{Kept}
 use Rattle.record_ebr.specs.Ebr.{no_kept}
-use Rattle.record_mbr.specs.declared.MBRHeader.{MBRHeader}
-use Rattle.record_mbr.specs.Mbr.{primaries, primary_of, no_header, extended_of}
-use Rattle.table.specs.declared.DiskLba.{DiskLba}
-use Rattle.table.specs.declared.MaybeSectors.{MaybeSectors}
-use Rattle.table.specs.declared.MaybeSectors.TheVariants.{Absent, Present}
-use Rattle.table.specs.declared.MaybeChs.{MaybeChs}
-use Rattle.table.specs.declared.MaybeChs.TheVariants.{Absent as NoChs, Present as SomeChs}
+use Rattle.record_mbr.specs.Mbr.{primaries, extended_of}
+use Rattle.table.specs.declared.MaybeSectors.TheVariants.{Absent}
+use Rattle.table.specs.declared.MaybeChs.TheVariants.{Absent as NoChs}
 use Rattle.table.specs.declared.LogicalPartition.{LogicalPartition}
 use Rattle.table.specs.declared.MBR.{MBR}
 

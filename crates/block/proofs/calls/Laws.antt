@@ -8,7 +8,7 @@ use Rattle.base.specs.Said.{Said, gives, refuses, and_then, value_or}
 use Rattle.base.specs.Checks.{first-fail}
 use Rattle.base.proofs.Checks.{checked-some, checked-none, none-fails}
 use Rattle.table.specs.declared.MBR.{MBR}
-use Rattle.block.specs.Block.{table_in, block_checks, block_length, Passed}
+use Rattle.block.specs.Block.{table_in, block_checks, Passed}
 use Rattle.block.specs.Blocks.{block_says, bytes_after, table_after}
 use Rattle.base.specs.Bytes.{number, bytes_at, little}
 use Rattle.table.specs.Table.{most}

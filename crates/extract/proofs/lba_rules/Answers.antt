@@ -1,7 +1,7 @@
 use borrow.Author.Rules.{rules}
 use native.Mathlib.Nat.{sub-zero}
 use mathlib.Core.Path.{sym, ◌∙◌}
-use Prim.Native.Nat.{◌≤◌, ◌<◌, ◌-◌}
+use Prim.Native.Nat.{◌≤◌, ◌<◌}
 use Rattle.extract.specs.Extract.{lba_at}
 use Rattle.extract.proofs.Rising.{scan-start, turn-fall, turn-rise, end-past, end-good}
 use Rattle.extract.proofs.lba_rules.Goals as goal

@@ -5,18 +5,6 @@ use Rattle.record_chs.proofs.Small.{under, head-fits, sector-fits}
 use borrow.Author.Rules.{rules}
 use Rattle.record_chs.proofs.address_of.Goals as goal
 
--- TODO rem-rem : tie.Need-nonzero-rem-rem
--- rem-rem c = search rules
-
--- TODO div-t8 : tie.Need-nonzero-div-t8
--- div-t8 c = search rules
-
--- TODO div-t10 : tie.Need-nonzero-div-t10
--- div-t10 c = right-pos _ _ c.requires.0
-
--- TODO rem-t12 : tie.Need-nonzero-rem-t12
--- rem-t12 c = right-pos _ _ c.requires.0
-
 pub overflow_mul-size : goal.overflow_mul-size
 overflow_mul-size c = record { fits = lt_of_le_of_lt (under 255 255 (search rules) (search rules)) (lit< tt) }
 

@@ -1,6 +1,5 @@
 -- What an answer says determines it. Assumes nothing.
 use mathlib.Core.Path.{◌≡◌, refl}
-use Prim.Native.Nat.{◌-◌}
 use Rattle.base.specs.Said.{refusal_of}
 use Rattle.base.specs.Pick.{pick}
 use Rattle.base.proofs.Readings.{undone-injective, from_said, from_option}

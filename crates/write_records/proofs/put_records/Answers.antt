@@ -1,9 +1,8 @@
-use lib.ListN.{length, length-map, take, get_or}
+use lib.ListN.{length, take, get_or}
 use lib.Seq.{length-take-le, get_or-take, take_all}
 use Prim.Native.Nat.{ℕ, ◌+◌, ◌*◌, ◌-◌, ◌≤◌, ◌<◌}
 use mathlib.Core.Path.{◌≡◌, refl, sym, ap, subst, ◌∙◌}
 use mathlib.Core.List.{List}
-use mathlib.Core.Logic.{inl, inr}
 use native.Mathlib.Omega.{arith}
 use Rattle.base.specs.Put.{put}
 use Rattle.base.specs.All.{All}

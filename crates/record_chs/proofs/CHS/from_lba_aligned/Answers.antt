@@ -4,9 +4,6 @@ use Rattle.base.proofs.Tests.{tests}
 use Rattle.record_chs.proofs.Small.{quotient}
 use Rattle.record_chs.proofs.CHS.from_lba_aligned.Goals as goal
 
--- TODO div-next : tie.Need-nonzero-div-next
--- div-next c = search rules
-
 pub returns-then-lba-eq0 : goal.returns-then-lba-eq0
 returns-then-lba-eq0 c = search tests
 

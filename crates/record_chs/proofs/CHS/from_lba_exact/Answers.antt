@@ -1,9 +1,6 @@
 use Rattle.base.proofs.Tests.{tests}
 use Rattle.record_chs.proofs.CHS.from_lba_exact.Goals as goal
 
--- TODO div-cylinder : tie.Need-nonzero-div-cylinder
--- div-cylinder c = search rules
-
 pub returns-then-size-eq0 : goal.returns-then-size-eq0
 returns-then-size-eq0 c = rw (← c.cylinder_size-size.ensures.0) (search tests)
 

@@ -2,7 +2,6 @@ use Rattle.table_lookup.specs.Hits.{hit_said}
 use Rattle.table.specs.Table.{most}
 use borrow.Author.Rules.{rules}
 use mathlib.Core.Path.{◌≡◌, sym, ◌∙◌}
-use Prim.Native.Nat.{◌-◌}
 use native.Mathlib.Omega.{arith}
 use lib.ListN.{length}
 use Rattle.table_lookup.proofs.hits.Search.{starts, turns, ends}

@@ -1,11 +1,7 @@
-use lib.ListN.{length}
-use Prim.Native.Nat.{◌+◌, ◌*◌, ◌≤◌, ◌<◌}
 use mathlib.Core.List.{[], ◌∷◌}
-use mathlib.Core.Path.{◌≡◌, ◌∙◌}
+use mathlib.Core.Path.{◌∙◌}
 use native.Mathlib.Omega.{arith}
 use Rattle.write_rules.proofs.sources.Laws.{old-source, first-source, put-old, put_first}
-use Rattle.extract.specs.Rules.{most_records}
-use Rattle.write_rules.specs.Sources.{mbr_source}
 use Rattle.write_records.proofs.one_record.put_kept.Goals as goal
 
 pub overflow_mul-from : goal.overflow_mul-from

@@ -28,7 +28,7 @@ pub struct LentRuns {
     pub runs: [Run; RUNS],
 }
 
-// The same with a list of thirty equal runs that this function makes and lends, so that its callers need no walk.
+// The same with a list of thirty equal runs that this function makes and lends, for callers that take the list by value.
 pub fn lent(t: MBR, mark: Run) -> LentRuns
     ensures { (run_count_said result.answer ≡ free_count t most_runs) × (result.runs ≡ free_list t (replicate most_runs mark)) }
 {

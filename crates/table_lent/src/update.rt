@@ -17,7 +17,7 @@ pub fn update_chs(l: &mut LogicalPartition, cylinders: u16, heads: u8, sectors: 
     u.answer
 }
 
-// The same for a caller that has the partition by value: this function makes the reference, so that its callers need no walk.
+// The same for a caller that has the partition by value: this function makes the reference.
 pub fn lent(l: LogicalPartition, cylinders: u16, heads: u8, sectors: u8) -> Updated
     ensures { (refusal result.answer ≡ failure (update_chs (geometry_in cylinders heads sectors) l)) × (result.logical ≡ value_or l (update_chs (geometry_in cylinders heads sectors) l)) }
 {

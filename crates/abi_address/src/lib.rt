@@ -9,7 +9,7 @@ pub mod slot_chs;
 ghost use Rattle.std.specs.Prelude.{◌≡◌, [], ◌∷◌};
 ghost use Rattle.base.specs.Said.{gives};
 ghost use Rattle.base.specs.Bytes.{number, little};
-ghost use Rattle.record_chs.specs.Chs.{chs, chs_bytes, chs_of, exact, aligned, lba_of, is_valid, lba};
+ghost use Rattle.record_chs.specs.Chs.{chs, chs_bytes, chs_of, exact, aligned, lba_of, is_valid};
 ghost use Rattle.record_entry.specs.Entry.{extended};
 ghost use Rattle.abi_word.specs.Packed.{packed};
 ghost use Rattle.abi_address.specs.Chs.{packed_chs};
@@ -36,7 +36,7 @@ pub fn cv_chs_to_lba(cylinder: u16, head: u8, sector: u8, heads: u8, sectors: u8
     ensures { result ≡ packed (lba_of (chs cylinder head sector) heads sectors) }
 {
     let c = CHS::new(cylinder, head, sector);
-    crate::chs_word::of_lba(c.to_lba(heads, sectors))
+    abi_word::word(c.to_lba(heads, sectors))
 }
 
 // Whether an address is valid for a geometry.

@@ -8,21 +8,10 @@ pub mod soundness;
 ghost use Rattle.std.specs.Prelude.{◌≡◌, ◌≤◌, length};
 ghost use Rattle.careful.specs.Careful.{careful_push_says, careful_remove_says};
 ghost use Rattle.careful.specs.Output.{out_after, stores_counted};
-ghost use Rattle.careful_push.specs.Change.{changed_said};
 ghost use Rattle.abi_word.specs.Packed.{packed};
 ghost use Rattle.abi_careful.specs.Asked.{request_with};
 
-use careful_push::Changed;
 use table_push::{Geometry, Request};
-
-fn of_changed(c: Changed) -> u64
-    ensures { result ≡ packed (changed_said c) }
-{
-    match c {
-        Changed::Stores(n) => n as u64,
-        Changed::Refused(k) => abi_word::upper(k.number),
-    }
-}
 
 // What a careful push asks for, from its numbers.
 fn request(
@@ -36,17 +25,16 @@ fn request(
 ) -> Request
     ensures { result ≡ request_with align cylinders heads track sys start sectors }
 {
-    let geometry = Geometry {
-        cylinders: cylinders,
-        heads: heads,
-        sectors: track,
-    };
     Request {
-        align: align,
-        geometry: geometry,
-        sys: sys,
-        start: start,
-        sectors: sectors,
+        align,
+        geometry: Geometry {
+            cylinders,
+            heads,
+            sectors: track,
+        },
+        sys,
+        start,
+        sectors,
     }
 }
 
@@ -66,7 +54,7 @@ pub fn cv_careful_push(
     ensures left { out.new ≡ out_after out.old (careful_push_says x.now (length out.old) (request_with align cylinders heads track sys start sectors)) }
 {
     let q = request(align, cylinders, heads, track, sys, start, sectors);
-    of_changed(careful_push::careful_push(x, q, out))
+    abi_word::length_word(careful_push::careful_push(x, q, out))
 }
 
 // Careful removal: the number of stores, which stand in `out`; reading's refusals, 20, 17, 19.
@@ -74,5 +62,5 @@ pub fn cv_careful_remove(x: &[u8], number: u32, out: &mut [u8]) -> u64
     ensures said { result ≡ packed (stores_counted (careful_remove_says x.now (length out.old) number)) }
     ensures left { out.new ≡ out_after out.old (careful_remove_says x.now (length out.old) number) }
 {
-    of_changed(careful_remove::careful_remove(x, number as usize, out))
+    abi_word::length_word(careful_remove::careful_remove(x, number as usize, out))
 }

@@ -1,10 +1,10 @@
 // A header into lent bytes.
 ghost use Rattle.std.specs.Prelude.{◌≡◌, length};
-ghost use Rattle.base.specs.Said.{gives, failure};
+ghost use Rattle.base.specs.Said.{gives, failure, refusal};
 ghost use Rattle.block.specs.Block.{header_part, header_length};
-ghost use Rattle.abi_word.specs.Packed.{status};
 ghost use Rattle.abi_header.specs.HeaderBytesHeader.{header_for, header_after};
 
+use base::Refusal;
 use record_mbr::MBRHeader;
 
 // A header over lent bytes of its length, by way of a block.
@@ -18,13 +18,13 @@ pub fn put_header(h: MBRHeader, out: &mut [u8])
 }
 
 // A header into lent bytes: 101.
-pub fn header_to(h: MBRHeader, out: &mut [u8]) -> u8
-    ensures value { result ≡ status (failure (header_for (gives h) (length out.old))) }
+pub fn header_to(h: MBRHeader, out: &mut [u8]) -> Result<(), Refusal>
+    ensures value { refusal result ≡ failure (header_for (gives h) (length out.old)) }
     ensures out_after { out.new ≡ header_after out.old (header_for (gives h) (length out.old)) }
 {
     if out.len() != block::HEADER {
-        return 101;
+        return Err(Refusal::BlockLength);
     }
     put_header(h, out);
-    0
+    Ok(())
 }

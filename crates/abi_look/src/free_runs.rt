@@ -7,7 +7,6 @@ ghost use Rattle.abi_word.specs.Packed.{packed, packed_option};
 ghost use Rattle.block.specs.Blocks.{block_says};
 ghost use Rattle.block_free.specs.Free.{runs_for, how_many, runs_after};
 
-use base::Answer;
 use block_free::places::Which;
 use block_free::sizes::Whose;
 
@@ -17,43 +16,40 @@ pub fn cv_find_free_sectors(b: &[u8], out: &mut [u8]) -> u64
     ensures said { result ≡ packed (how_many (runs_for (block_says b.now) (length out.old))) }
     ensures left { out.new ≡ runs_after out.old (runs_for (block_says b.now) (length out.old)) }
 {
-    match block_read::checks::check(b) {
-        Answer::Refused(k) => abi_word::upper(k.number),
-        Answer::Done => block_free::runs::free_on(b, out),
-    }
+    abi_word::word(block_free::runs::free_on(b, out))
 }
 
 // The start of the first free run that is long enough; the block's refusals, 7; 255 for none.
 pub fn cv_find_first_place(b: &[u8], size: u32) -> u64
     ensures { result ≡ packed_option (and_then (block_says b.now) (λ t. first_place t size)) }
 {
-    block_free::places::place_in(b, Which::First, size)
+    abi_word::option_word(block_free::places::place_in(b, Which::First, size))
 }
 
 // The last aligned place in the last run that is long enough; the block's refusals, 7; 255 for none.
 pub fn cv_find_last_place(b: &[u8], size: u32) -> u64
     ensures { result ≡ packed_option (and_then (block_says b.now) (λ t. last_place t size)) }
 {
-    block_free::places::place_in(b, Which::Last, size)
+    abi_word::option_word(block_free::places::place_in(b, Which::Last, size))
 }
 
 // The start of the smallest run that is long enough; the block's refusals, 7; 255 for none.
 pub fn cv_find_optimal_place(b: &[u8], size: u32) -> u64
     ensures { result ≡ packed_option (and_then (block_says b.now) (λ t. optimal_place t size)) }
 {
-    block_free::places::place_in(b, Which::Optimal, size)
+    abi_word::option_word(block_free::places::place_in(b, Which::Optimal, size))
 }
 
 // The most sectors of a new partition, in whole alignments; the block's refusals, 7, 16.
 pub fn cv_get_maximum_partition_size(b: &[u8]) -> u64
     ensures { result ≡ packed (and_then (block_says b.now) (λ t. maximum_size t)) }
 {
-    block_free::sizes::size_in(b, Whose::New)
+    abi_word::word(block_free::sizes::size_in(b, Whose::New))
 }
 
 // The sectors to which the partition with a number can grow; the block's refusals, 7, 15.
 pub fn cv_get_maximum_partition_size_for(b: &[u8], number: u32) -> u64
     ensures { result ≡ packed (and_then (block_says b.now) (λ t. maximum_for t number)) }
 {
-    block_free::sizes::size_in(b, Whose::Number(number))
+    abi_word::word(block_free::sizes::size_in(b, Whose::Number(number)))
 }

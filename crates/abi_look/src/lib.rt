@@ -14,46 +14,32 @@ ghost use Rattle.abi_word.specs.Packed.{packed, packed_option, packed_bool};
 ghost use Rattle.block.specs.Blocks.{block_says};
 ghost use Rattle.block_lookup.specs.Entry.{entry_status, entry_after};
 
-use base::Answer;
-
 // The number of the partition at a sector, in the table of a block; the block's refusals, 7; 255 for none.
 pub fn cv_find_at_sector(b: &[u8], sector: u32) -> u64
     ensures { result ≡ packed_option (and_then (block_says b.now) (λ t. find_says t sector)) }
 {
-    match block_read::checks::check(b) {
-        Answer::Refused(k) => abi_word::upper(k.number),
-        Answer::Done => block_lookup::find_word::find_on(b, sector),
-    }
+    abi_word::option_word(block_lookup::at_sector::find_at_sector(b, sector))
 }
 
 // How many partitions the table of a block has, the four primaries always counted; the block's refusals.
 pub fn cv_len(b: &[u8]) -> u64
     ensures { result ≡ packed (and_then (block_says b.now) len_says) }
 {
-    match block_read::checks::check(b) {
-        Answer::Refused(k) => abi_word::upper(k.number),
-        Answer::Done => block_lookup::geometry_check::len_on(b),
-    }
+    abi_word::word(block_lookup::geometry_check::len(b))
 }
 
 // Whether the geometry in the table of a block is complete, 1 or 0; the block's refusals.
 pub fn cv_check_geometry(b: &[u8]) -> u64
     ensures { result ≡ packed_bool (and_then (block_says b.now) check_geometry_says) }
 {
-    match block_read::checks::check(b) {
-        Answer::Refused(k) => abi_word::upper(k.number),
-        Answer::Done => block_lookup::geometry_check::check_on(b),
-    }
+    abi_word::bool_word(block_lookup::geometry_check::check_geometry(b))
 }
 
 // The sectors of a cylinder by the geometry in the table of a block; the block's refusals.
 pub fn cv_get_cylinder_size(b: &[u8]) -> u64
     ensures { result ≡ packed (and_then (block_says b.now) cylinder_size_says) }
 {
-    match block_read::checks::check(b) {
-        Answer::Refused(refused) => abi_word::upper(refused.number),
-        Answer::Done => block_lookup::geometry_check::size_on(b),
-    }
+    abi_word::word(block_lookup::geometry_check::get_cylinder_size(b))
 }
 
 // The entry of a partition number in the table of a block, as 18 bytes at the start of lent ones: the block's refusals,
@@ -62,8 +48,9 @@ pub fn cv_get(b: &[u8], number: u32, out: &mut [u8]) -> u8
     ensures said { result ≡ entry_status (length out.old) (and_then (block_says b.now) (λ t. get_says t number)) }
     ensures left { out.new ≡ entry_after out.old (and_then (block_says b.now) (λ t. get_says t number)) }
 {
-    match block_read::checks::check(b) {
-        Answer::Refused(k) => k.number,
-        Answer::Done => block_lookup::entry_bytes::get_on(b, number, out),
+    match block_lookup::by_number::get(b, number) {
+        Err(k) => k.number(),
+        Ok(None) => abi_word::NOTHING,
+        Ok(Some(e)) => abi_word::status(block_lookup::entry_bytes::put_found(e, out)),
     }
 }

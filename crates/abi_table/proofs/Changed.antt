@@ -1,7 +1,7 @@
 -- The table in a block after push and removal where it lies: the library's own. Assumes nothing.
 use mathlib.Core.Path.{◌≡◌, refl, sym, ap, ◌∙◌}
 use mathlib.Core.List.{List}
-use mathlib.Core.Option.{Option, none, some}
+use Rattle.std.specs.Prelude.{Option, None, Some}
 use Prim.Native.Nat.{ℕ, ◌+◌, ◌-◌, ◌<◌}
 use borrow.Author.Tests.{ltb-true}
 use Rattle.base.specs.Said.{Said, gives, refuses, value_or}
@@ -37,32 +37,32 @@ module _ (b : List ℕ) (sys start sectors : ℕ) where
   abbrev new : LogicalPartition
   new = new_logical (later_than t.count) q
 
-  refused-table : (k : ℕ) → first-fail (block_checks b) ≡ none → first-fail (table_push_checks t q) ≡ some k
+  refused-table : (k : ℕ) → first-fail (block_checks b) ≡ None → first-fail (table_push_checks t q) ≡ Some k
       → block_says (value_or b (pushed_on b sys start sectors t)) ≡ gives (push_table t sys start sectors)
   unfolding push_says push_table
   refused-table k h e =
-      ap block_says (sym (push-refused b sys start sectors k (checked-some (table_push_checks t q) refuses (gives (t.count + 5)) k e)).1) ∙ block-done b t h refl
+      ap block_says (sym (push-refused b sys start sectors k (checked-some (table_push_checks t q) refuses (gives (t.count + 5)) k e))) ∙ block-done b t h refl
       ∙ ap gives (sym (checked-some (table_push_checks t q) (λ (_ : ℕ). t) (pushed_to t q) k e))
 
-  done-table : first-fail (block_checks b) ≡ none → first-fail (table_push_checks t q) ≡ none
+  done-table : first-fail (block_checks b) ≡ None → first-fail (table_push_checks t q) ≡ None
       → block_says (value_or b (pushed_on b sys start sectors t)) ≡ gives (push_table t sys start sectors)
   unfolding push_says push_table table_push_checks pushed_to
   done-table h e =
       let g : Passed b = passed b h in
       let f = push-fits q (extended_in t) t.count (none-fails (table_push_checks t q) e).1 in
-      ap block_says (sym (push-done b sys start sectors new (with_slot b t.count new) (checked-none (table_push_checks t q) refuses (gives (t.count + 5)) e) refl refl).1)
+      ap block_says (sym (push-done b sys start sectors new (with_slot b t.count new) (checked-none (table_push_checks t q) refuses (gives (t.count + 5)) e) refl refl))
       ∙ good-says (with_slot b t.count new) (pushed_to t q) (slot-good b new g f.0 f.1) (slot-table b new g f.0 f.1)
       ∙ ap gives (sym (checked-none (table_push_checks t q) (λ (_ : ℕ). t) (pushed_to t q) e))
 
-  pub pushed-table : first-fail (block_checks b) ≡ none → block_says (value_or b (pushed_on b sys start sectors t)) ≡ gives (push_table t sys start sectors)
+  pub pushed-table : first-fail (block_checks b) ≡ None → block_says (value_or b (pushed_on b sys start sectors t)) ≡ gives (push_table t sys start sectors)
   pushed-table h = go (first-fail (table_push_checks t q)) refl
     where
       go : (o : Option ℕ) → first-fail (table_push_checks t q) ≡ o → block_says (value_or b (pushed_on b sys start sectors t)) ≡ gives (push_table t sys start sectors)
-      go none e = done-table h e
-      go (some k) e = refused-table k h e
+      go None e = done-table h e
+      go (Some k) e = refused-table k h e
 
 -- the table after the removal of a logical partition by its number
-module _ (b : List ℕ) (n : ℕ) (h : first-fail (block_checks b) ≡ none) where
+module _ (b : List ℕ) (n : ℕ) (h : first-fail (block_checks b) ≡ None) where
   abbrev u : MBR
   u = table_in b
 
@@ -70,13 +70,13 @@ module _ (b : List ℕ) (n : ℕ) (h : first-fail (block_checks b) ≡ none) whe
   removed-table = go (first-fail (remove_checks u n)) refl
     where
       go : (o : Option ℕ) → first-fail (remove_checks u n) ≡ o → block_says (value_or b (removed_on b n u)) ≡ gives (removed_table u n)
-      go none e =
+      go None e =
           let g : Passed b = passed b h in
           let k : n - 5 < u.count = ltb-true _ _ (none-fails (remove_checks u n) e).1.1.0 in
           ap (λ (s : Said (List ℕ)). block_says (value_or b s)) (checked-none (remove_checks u n) refuses (gives (without_slot b u.count (n - 5))) e)
           ∙ good-says (without_slot b u.count (n - 5)) (without u (n - 5)) (removal-good b (n - 5) g k) (removal-table b (n - 5) g k)
           ∙ ap gives (sym (checked-none (remove_checks u n) (λ (_ : ℕ). u) (without u (n - 5)) e))
-      go (some k) e =
+      go (Some k) e =
           ap (λ (s : Said (List ℕ)). block_says (value_or b s)) (checked-some (remove_checks u n) refuses (gives (without_slot b u.count (n - 5))) k e)
           ∙ block-done b u h refl
           ∙ ap gives (sym (checked-some (remove_checks u n) (λ (_ : ℕ). u) (without u (n - 5)) k e))

@@ -1,6 +1,6 @@
 -- A logical partition that push makes fits a block's slot. Assumes nothing.
 use mathlib.Core.Bool.{Bool, true, false}
-use mathlib.Core.Option.{Option}
+use Rattle.std.specs.Prelude.{Option, Some, None}
 use mathlib.Core.List.{List, [], ◌∷◌, ◌++◌}
 use Prim.Native.Nat.{ℕ, ◌+◌, ◌-◌, ◌*◌, ◌/◌, ◌≤◌, ◌<◌, ◌^◌}
 use native.Mathlib.Omega.{arith}
@@ -12,8 +12,6 @@ use Rattle.base.proofs.Checks.{hold-left, hold-right}
 use Rattle.record_entry.specs.declared.MBRPartitionEntry.{MBRPartitionEntry}
 use Rattle.record_ebr.specs.Ebr.{no_kept}
 use Rattle.record_ebr.proofs.Laws.{no-kept-ok}
-use Rattle.table.specs.declared.MaybeSectors.{MaybeSectors}
-use Rattle.table.specs.declared.MaybeSectors.TheVariants.{Absent, Present}
 use Rattle.table.specs.declared.LogicalPartition.{LogicalPartition}
 use Rattle.table.specs.Table.{most}
 use Rattle.block.specs.Fits.{LastFits, KeptLong, SlotFits}
@@ -29,9 +27,9 @@ cylinder g a h =
     let k : a / (g.heads * g.sectors) ≤ 1023 = leb-true _ _ h.1.0 in
     omega (arith, k)
 
-link_fits : (g : Geometry) (a : ℕ) (m : MaybeSectors) → AllHold (link_checks g a m) → LastFits (link_address g a m)
-link_fits g a Absent h = tt
-link_fits g a (Present n) h = cylinder g (a + n - 1) h.1.1
+link_fits : (g : Geometry) (a : ℕ) (m : Option ℕ) → AllHold (link_checks g a m) → LastFits (link_address g a m)
+link_fits g a None h = tt
+link_fits g a (Some n) h = cylinder g (a + n - 1) h.1.1
 
 addressed-fits : (g : Geometry) (l : LogicalPartition) → SlotFits l → AllHold (update_checks g l) → SlotFits (addressed g l)
 unfolding addressed update_checks

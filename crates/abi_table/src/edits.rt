@@ -10,18 +10,13 @@ ghost use Rattle.block_new.specs.Put.{block_after, alone};
 ghost use Rattle.block_remove.specs.AtSectorRemoved.{removed_at_on};
 ghost use Rattle.block_new.specs.Updated.{updated_on};
 
-use base::Answer;
-
 // Removal of the partition at a sector from the table of a block, where it lies: the block's refusals, 7, 15.
 pub fn cv_remove_at_sector(b: &mut [u8], sector: u32) -> u8
     ensures said { result ≡ refusal_number (and_then (block_says b.old) (λ t. remove_at_says t sector)) }
     ensures left { b.new ≡ bytes_after b.old (removed_at_on b.old sector) }
     ensures table { block_says b.new ≡ table_after b.old (λ t. value_or t (remove_at_says t sector)) }
 {
-    match block_read::checks::check(b) {
-        Answer::Refused(k) => k.number,
-        Answer::Done => block_remove::at_sector::remove_at_on(b, sector),
-    }
+    abi_word::status(block_remove::at_sector::remove_at_sector(b, sector))
 }
 
 // A new table for the disk of an extract, as a block: 1, 101. The disk signature's bytes are the number's, little-endian.
@@ -29,8 +24,8 @@ pub fn cv_new_from(x: &[u8], signature: u32, out: &mut [u8]) -> u8
     ensures said { result ≡ refusal_number (alone (length out.old) (new_says x.now (bytes_of little 4 signature))) }
     ensures left { out.new ≡ block_after out.old (new_says x.now (bytes_of little 4 signature)) }
 {
-    let bytes = block_new::fresh::four(signature);
-    block_new::fresh::put_given(table_new::new_from(x, bytes), out)
+    let t = table_new::new_from(x, block_new::fresh::four(signature));
+    abi_word::status(block_new::fresh::put_given(t, out))
 }
 
 // Puts the table of a block on the disk of an extract, where it lies: the block's refusals, 1.
@@ -39,8 +34,5 @@ pub fn cv_update_from(b: &mut [u8], x: &[u8]) -> u8
     ensures left { b.new ≡ bytes_after b.old (updated_on b.old x.now) }
     ensures table { block_says b.new ≡ table_after b.old (λ t. value_or t (update_says t x.now)) }
 {
-    match block_read::checks::check(b) {
-        Answer::Refused(k) => k.number,
-        Answer::Done => block_new::other_disk::update_on(b, x),
-    }
+    abi_word::status(block_new::other_disk::update_from(b, x))
 }

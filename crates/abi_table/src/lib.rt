@@ -16,22 +16,12 @@ ghost use Rattle.block_push.specs.Pushed.{pushed_on};
 ghost use Rattle.block_remove.specs.ByNumberRemoved.{removed_on};
 ghost use Rattle.block_new.specs.Put.{block_after, alone};
 
-use base::Answer;
-
 // The table that an extract reads as, as a block: reading's refusals, 101.
 pub fn cv_read(x: &[u8], out: &mut [u8]) -> u8
     ensures said { result ≡ refusal_number (alone (length out.old) (table_says x.now)) }
     ensures left { out.new ≡ block_after out.old (table_says x.now) }
 {
-    let r = read_table::read_from(x);
-    let answer = r.answer;
-    match answer {
-        Answer::Refused(why) => why.number,
-        Answer::Done => {
-            let t = r.table;
-            block_new::table_put::put_table(t, out)
-        }
-    }
+    abi_word::status(block_new::fresh::put_given(read_table::read_from(x), out))
 }
 
 // push on the table of a block, where it lies: the new partition's number; the block's refusals, push's.
@@ -40,10 +30,7 @@ pub fn cv_push(b: &mut [u8], sys: u8, start: u32, sectors: u32) -> u64
     ensures left { b.new ≡ bytes_after b.old (pushed_on b.old sys start sectors) }
     ensures table { block_says b.new ≡ table_after b.old (λ t. push_table t sys start sectors) }
 {
-    match block_read::checks::check(b) {
-        Answer::Refused(k) => abi_word::upper(k.number),
-        Answer::Done => block_push::push_on(b, sys, start, sectors),
-    }
+    abi_word::word(block_push::push(b, sys, start, sectors))
 }
 
 // Removal of a logical partition by its number from the table of a block, where it lies: the block's refusals, 17.
@@ -52,8 +39,5 @@ pub fn cv_remove(b: &mut [u8], i: u32) -> u8
     ensures left { b.new ≡ bytes_after b.old (removed_on b.old i) }
     ensures table { block_says b.new ≡ table_after b.old (λ t. removed_table t i) }
 {
-    match block_read::checks::check(b) {
-        Answer::Refused(k) => k.number,
-        Answer::Done => block_remove::by_number::remove_on(b, i),
-    }
+    abi_word::status(block_remove::by_number::remove(b, i))
 }

@@ -1,7 +1,7 @@
 -- One number determines the answer that it stands for. Assumes nothing.
 use mathlib.Core.Path.{◌≡◌, refl, ap, ◌∙◌}
 use mathlib.Core.Bool.{Bool, true, false}
-use mathlib.Core.Option.{Option, none, some}
+use Rattle.std.specs.Prelude.{Option, None, Some}
 use Prim.Native.Nat.{ℕ, ◌*◌, ◌/◌, ◌<◌, ◌≤◌}
 use native.Mathlib.Omega.{arith}
 use lib.Dec.{eqb, ltb}
@@ -36,25 +36,25 @@ pub status-injective : (a b : Option ℕ) → Known a → Known b → status a �
 status-injective = undone-injective-on Known status known back
   where
     known : ℕ → Option ℕ
-    known n = pick (eqb n 0) none (some n)
+    known n = pick (eqb n 0) None (Some n)
 
     back : (a : Option ℕ) → Known a → known (status a) ≡ a
-    back none f = refl
-    back (some k) f = rw (ne_eqb k 0 (omega arith))
+    back None f = refl
+    back (Some k) f = rw (ne_eqb k 0 (omega arith))
 
 -- nothing, a value below 4,294,967,296, or a refusal above 0 and below 255
 pub packed_option-injective : (a b : Said (Option ℕ)) → FitsOption a → FitsOption b → packed_option a ≡ packed_option b → a ≡ b
 packed_option-injective = undone-injective-on FitsOption packed_option (lower present other) back
   where
     present : ℕ → Said (Option ℕ)
-    present v = gives (some v)
+    present v = gives (Some v)
 
     other : ℕ → Said (Option ℕ)
-    other k = pick (eqb k 255) (gives none) (refuses k)
+    other k = pick (eqb k 255) (gives None) (refuses k)
 
     back : (a : Said (Option ℕ)) → FitsOption a → lower present other (packed_option a) ≡ a
-    back (gives none) f = lower-upper present other 255 (omega arith)
-    back (gives (some v)) f = lower-value present other v f
+    back (gives None) f = lower-upper present other 255 (omega arith)
+    back (gives (Some v)) f = lower-value present other v f
     back (refuses k) f = lower-upper present other k (omega arith) ∙ rw (ne_eqb k 255 (omega arith))
 
 -- yes, no, or a refusal above 0

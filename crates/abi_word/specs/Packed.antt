@@ -1,6 +1,6 @@
 -- How an answer crosses as one number: the value, or 4,294,967,296 times the refusal's number. Assumes nothing.
 use Rattle.std.specs.Prelude.{ℕ, ◌*◌, ◌<◌, ◌≤◌, Bool, true, false}
-use Rattle.std.proofs.Math.Option.{Option, none, some}
+use Rattle.std.specs.Prelude.{Option, None, Some}
 use Rattle.base.specs.Said.{Said, gives, refuses}
 
 -- the number of a refusal in the upper half
@@ -14,16 +14,16 @@ packed (refuses k) = upper k
 
 -- rule Z19: a refusal, or 0
 abbrev pub status : Option ℕ → ℕ
-status none = 0
-status (some k) = k
+status None = 0
+status (Some k) = k
 
 -- rule Z19: nothing is 255, in the upper half where there is one, which is no refusal's number (rule Z27)
 abbrev pub nothing : ℕ
 nothing = 255
 
 abbrev pub packed_option : Said (Option ℕ) → ℕ
-packed_option (gives none) = upper nothing
-packed_option (gives (some v)) = v
+packed_option (gives None) = upper nothing
+packed_option (gives (Some v)) = v
 packed_option (refuses k) = upper k
 
 -- rule Z19: yes is 1, no is 0
@@ -38,13 +38,13 @@ InWord (gives v) = v < 4294967296
 InWord (refuses k) = 1 ≤ k
 
 abbrev pub Known : Option ℕ → Type 0
-Known none = 0 ≤ 0
-Known (some k) = 1 ≤ k
+Known None = 0 ≤ 0
+Known (Some k) = 1 ≤ k
 
 -- a refusal's number is not that of nothing
 abbrev pub FitsOption : Said (Option ℕ) → Type 0
-FitsOption (gives none) = 0 ≤ 0
-FitsOption (gives (some v)) = v < 4294967296
+FitsOption (gives None) = 0 ≤ 0
+FitsOption (gives (Some v)) = v < 4294967296
 FitsOption (refuses k) = (1 ≤ k) × (k < nothing)
 
 abbrev pub FitsBool : Said Bool → Type 0

@@ -5,11 +5,12 @@ use Prim.Native.Nat.{ℕ, zero, suc, ◌+◌, ◌*◌, ◌/◌, ◌%◌, ◌≤�
 use native.Mathlib.Nat.{add-zero}
 use native.Mathlib.Numerals.{add-one}
 use native.Mathlib.Omega.{arith}
-use lib.ListN.{length, take, drop, get_or, replicate, length-append, length-reverse, drop_of_length-le}
+use lib.ListN.{length, take, drop, get_or, replicate, length-append, length-reverse}
 use lib.Seq.{drop-cons, drop_at, take_at, take-add}
+use lib.Pointwise.{pointwise}
 use lib.Dec.{eqb}
 use mathlib.Core.Bool.{Bool, true, false, ◌&&◌}
-use borrow.Author.Tests.{eqb-true, eq-eqb, ne_eqb}
+use borrow.Author.Tests.{eqb-true, eq-eqb}
 use Rattle.base.specs.Bytes.{Bytes, plus, from, bytes_at, stands_at, Order, little, big, in_order, sum, digits, number, bytes_of, top}
 
 -- bytes of lists
@@ -161,18 +162,9 @@ from-stands s at k (x ∷ xs) h =
 pub bytes-stand : (s : List ℕ) (at : ℕ) (w : List ℕ) → bytes_at s at (length w) ≡ w → stands_at s at w ≡ true
 bytes-stand s at w h = rw add-zero at (from-stands s at 0 w h)
 
--- one letter of a word
-module _ (s w : List ℕ) (at i : ℕ) where
-  letter : i < length w → stands_at s (at + i) (drop i w) ≡ (eqb (get_or s (at + i) 0) (get_or w i 0) && stands_at s (at + (i + 1)) (drop (i + 1) w))
-  letter h =
-      let e : at + i + 1 ≡ at + (i + 1) = omega arith in
-      rw (drop-cons w i 0 h, e, add-one i)
-
-  pub letter-same : i < length w → get_or s (at + i) 0 ≡ get_or w i 0 → stands_at s (at + i) (drop i w) ≡ stands_at s (at + (i + 1)) (drop (i + 1) w)
-  letter-same h e = letter h ∙ rw (eq-eqb _ _ e)
-
-  pub letter-other : i < length w → (get_or s (at + i) 0 ≡ get_or w i 0 → ⊥) → stands_at s (at + i) (drop i w) ≡ false
-  letter-other h e = letter h ∙ rw (ne_eqb _ _ e)
-
-  pub word_end : length w ≤ i → stands_at s (at + i) (drop i w) ≡ true
-  word_end h = rw (drop_of_length-le w h)
+-- a part of a list compared with a word
+pub part-stands : (s : List ℕ) (at : ℕ) (w : List ℕ) → at + length w ≤ length s → pointwise eqb (take (length w) (drop at s)) w ≡ stands_at s at w
+part-stands s at [] h = refl
+part-stands s at (x ∷ w) h =
+    let e : drop (at + 1) s ≡ drop (suc at) s = rw (add-one at) in
+    rw (drop-cons s at 0 (omega arith), ← e, part-stands s (at + 1) w (omega arith))

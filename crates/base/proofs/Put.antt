@@ -1,12 +1,13 @@
 -- Laws of `put`, of stores one by one, and of copies. Assumes nothing.
 use mathlib.Core.Path.{◌≡◌, refl, sym, ap, ◌∙◌}
 use mathlib.Core.List.{List, [], ◌∷◌, ◌++◌, append_assoc, append-nil}
-use Prim.Native.Nat.{ℕ, suc, ◌+◌, ◌≤◌, ◌<◌}
+use Prim.Native.Nat.{ℕ, suc, ◌+◌, ◌≤◌}
 use native.Mathlib.Nat.{add-zero, add-suc, add_assoc}
-use native.Mathlib.Numerals.{add-one}
 use native.Mathlib.Omega.{arith}
-use lib.ListN.{length, take, drop, get_or, set, length-append, length-drop, take-append-drop, drop_of_length-le}
-use lib.Seq.{sets, sets-eq, length-take-le, take_at, drop-append-add, drop-drop, paste, paste-suc, take-length}
+use lib.ListN.{length, take, drop, set, length-append, length-drop, take-append-drop, drop_of_length-le}
+use lib.Seq.{sets, sets-eq, length-take-le, take_at, drop-append-add, drop-drop, take-length}
+use borrow.Rule.Slice.PartMut.{put_mid}
+use Rattle.std.proofs.lemmas.Slice.{put_mid-paste}
 use Rattle.base.specs.Bytes.{plus}
 use Rattle.base.specs.Put.{put, over, laid}
 use Rattle.base.proofs.Bytes.{plus-eq}
@@ -63,15 +64,7 @@ behind d e f at n xs ys l h p q =
     let k : at + length xs ≤ length d = omega arith in
     q ∙ rw (p, ← l) (put-put d at xs k ys)
 
--- a turn of a copy into a list, and its end
-pub put-turn : (d₀ d src : List ℕ) (at i : ℕ) → d ≡ paste d₀ at src i → i < length src → at + length src ≤ length d₀
-    → set d (at + i) (get_or src i 0) ≡ paste d₀ at src (i + 1)
-put-turn d₀ d src at i e h k =
-    let p : at + i < length d₀ = omega arith in
-    rw (e, add-one i) (paste-suc d₀ at src i 0 p h)
-
-pub put_all : (d₀ d src : List ℕ) (at i : ℕ) → d ≡ paste d₀ at src i → i ≤ length src → length src ≤ i → d ≡ put d₀ at src
+-- a part of a list that is borrowed, and now holds other elements
+pub part-put : (s vs ys : List ℕ) (at k : ℕ) → ys ≡ vs → k ≡ length vs → put_mid at k s ys ≡ put s at vs
 unfolding put
-put_all d₀ d src at i e h k =
-    let z : i ≡ length src = omega arith in
-    e ∙ rw (z, take-length)
+part-put s vs ys at k e h = put_mid-paste at k s ys vs (length vs) e (sym h) refl ∙ rw take-length

@@ -1,6 +1,6 @@
 -- Refusals in order, as data: of several, the first in the list that fails is answered. Assumes nothing.
 use Rattle.std.specs.Prelude.{ℕ, Bool, true, false, ◌≡◌, List, [], ◌∷◌, ◌++◌, eqb, leb, length}
-use Rattle.std.proofs.Math.Option.{Option, none, some}
+use Rattle.std.specs.Prelude.{Option, None, Some}
 use Rattle.base.specs.Pick.{pick}
 use Rattle.base.specs.Said.{Said, gives, refuses}
 
@@ -20,7 +20,7 @@ checked (c ∷ cs) deny grant = pick c.holds (checked cs deny grant) (deny c.num
 
 -- the number of the first check that fails (rule G1)
 abbrev pub first-fail : List Check → Option ℕ
-first-fail cs = checked cs some none
+first-fail cs = checked cs Some None
 
 -- the value if all checks hold, else the first one's number that fails
 abbrev pub answer : {A : Type 0} → List Check → A → Said A

@@ -1,95 +1,94 @@
 // Numbers in lent bytes, lists laid over lists, refusals in order.
 // Scope: all numbers little-endian; of several refusals the first is answered; other lent bytes stay. Rules: G.
-// For our crates: `get16`, `get32`, `put8`, `put16`, `put32`, `copy_in`, `stands_at`; `Answer`, a refusal or none.
+// For our crates: `get16`, `get32`, `put8`, `put16`, `put32`, `copy_in`, `stands_at`; `Refusal`, why a call is refused.
 #![tactic(auto)]
 
 ghost use Rattle.std.specs.Prelude.{◌≡◌, ◌+◌, ◌≤◌, ◌<◌, List, [], ◌∷◌, length};
 ghost use Rattle.base.specs.Bytes.{number, bytes_of, bytes_at, stands_at, little};
 ghost use Rattle.base.specs.Put.{put};
+ghost use Rattle.base.specs.Said.{refusal_code};
 
-// Why a call is refused: the refusal's number.
-#[derive(Clone, Copy)]
-pub struct Refusal {
-    pub number: u8,
+// Why a call is refused. From `BlockLength` on it is a lent block that is at fault.
+#[derive(Clone, Copy, Debug, PartialEq, Eq)]
+pub enum Refusal {
+    BadExtract,
+    PastDisk,
+    InvalidSignature,
+    InvalidBootFlag,
+    InconsistentEBR,
+    TooManyLogicals,
+    Arithmetic,
+    NoExtendedPartition,
+    NotEnoughSectorsToCreateLogicalPartition,
+    EBRStartsBeforeExtendedPartition,
+    EBRStartsTooCloseToTheEndOfExtendedPartition,
+    EBREndsAfterExtendedPartition,
+    LBAExceedsMaximumCHS,
+    LBAExceedsMaximumCylinders,
+    PartitionNotFound,
+    NoSpaceLeft,
+    NoSuchLogical,
+    MissingLinkFields,
+    OutputTooShort,
+    NotSound,
+    NoGap,
+    TooManyRecords,
+    BadRequest,
+    BlockLength,
+    BlockTag,
 }
 
-// The refusals, by the names that the C header gives their numbers; from 101 on those of a lent block.
 impl Refusal {
-    pub const BAD_EXTRACT: Refusal = Refusal { number: 1 };
-
-    pub const PAST_DISK: Refusal = Refusal { number: 2 };
-
-    pub const SIGNATURE: Refusal = Refusal { number: 3 };
-
-    pub const BOOT_FLAG: Refusal = Refusal { number: 4 };
-
-    pub const INCONSISTENT_EBR: Refusal = Refusal { number: 5 };
-
-    pub const TOO_MANY: Refusal = Refusal { number: 6 };
-
-    pub const ARITHMETIC: Refusal = Refusal { number: 7 };
-
-    pub const NO_EXTENDED: Refusal = Refusal { number: 8 };
-
-    pub const TOO_FEW_SECTORS: Refusal = Refusal { number: 9 };
-
-    pub const BEFORE_EXTENDED: Refusal = Refusal { number: 10 };
-
-    pub const NEAR_END: Refusal = Refusal { number: 11 };
-
-    pub const AFTER_END: Refusal = Refusal { number: 12 };
-
-    pub const CYLINDER_1023: Refusal = Refusal { number: 13 };
-
-    pub const CYLINDER_DISK: Refusal = Refusal { number: 14 };
-
-    pub const NOT_FOUND: Refusal = Refusal { number: 15 };
-
-    pub const NO_SPACE: Refusal = Refusal { number: 16 };
-
-    pub const NO_SUCH_LOGICAL: Refusal = Refusal { number: 17 };
-
-    pub const NO_LINK: Refusal = Refusal { number: 18 };
-
-    pub const OUTPUT_SHORT: Refusal = Refusal { number: 19 };
-
-    pub const NOT_SOUND: Refusal = Refusal { number: 20 };
-
-    pub const NO_GAP: Refusal = Refusal { number: 21 };
-
-    pub const TOO_MANY_RECORDS: Refusal = Refusal { number: 22 };
-
-    pub const BAD_REQUEST: Refusal = Refusal { number: 23 };
-
-    pub const BLOCK_LENGTH: Refusal = Refusal { number: 101 };
-
-    pub const BLOCK_TAG: Refusal = Refusal { number: 102 };
-}
-
-// What a call that changes lent bytes, or returns a value beside it, says.
-#[derive(Clone, Copy)]
-pub enum Answer {
-    Done,
-    Refused(Refusal),
+    // Its number: in the C header, and in what the programs print.
+    pub fn number(self) -> u8
+        ensures { result ≡ refusal_code self }
+    {
+        match self {
+            Refusal::BadExtract => 1,
+            Refusal::PastDisk => 2,
+            Refusal::InvalidSignature => 3,
+            Refusal::InvalidBootFlag => 4,
+            Refusal::InconsistentEBR => 5,
+            Refusal::TooManyLogicals => 6,
+            Refusal::Arithmetic => 7,
+            Refusal::NoExtendedPartition => 8,
+            Refusal::NotEnoughSectorsToCreateLogicalPartition => 9,
+            Refusal::EBRStartsBeforeExtendedPartition => 10,
+            Refusal::EBRStartsTooCloseToTheEndOfExtendedPartition => 11,
+            Refusal::EBREndsAfterExtendedPartition => 12,
+            Refusal::LBAExceedsMaximumCHS => 13,
+            Refusal::LBAExceedsMaximumCylinders => 14,
+            Refusal::PartitionNotFound => 15,
+            Refusal::NoSpaceLeft => 16,
+            Refusal::NoSuchLogical => 17,
+            Refusal::MissingLinkFields => 18,
+            Refusal::OutputTooShort => 19,
+            Refusal::NotSound => 20,
+            Refusal::NoGap => 21,
+            Refusal::TooManyRecords => 22,
+            Refusal::BadRequest => 23,
+            Refusal::BlockLength => 101,
+            Refusal::BlockTag => 102,
+        }
+    }
 }
 
 // The last two bytes of an MBR and of an EBR.
 pub const SIGNATURE: [u8; 2] = *b"\x55\xAA";
 
-// A byte as a number to compute with.
+// A byte as a number to compute with, and no `u32::from`: the sums around it want the bound that its clause gives.
 pub fn wide(b: u8) -> u32
     ensures { (result ≡ b) × (result < 256) }
 {
     b as u32
 }
 
-// The little-endian number in the two bytes from index `at` on.
+// The little-endian number in the two bytes from index `at` on. Each width has its function: it is one call of the library's.
 pub fn get16(s: &[u8], at: usize) -> u16
     requires { at + 2 ≤ length s.now }
     ensures { result ≡ number little (bytes_at s.now at 2) }
 {
-    let v = wide(s[at]) + wide(s[at + 1]) * 256;
-    v as u16
+    u16::from_le_bytes([s[at], s[at + 1]])
 }
 
 // The little-endian number in the four bytes from index `at` on.
@@ -97,7 +96,7 @@ pub fn get32(s: &[u8], at: usize) -> u32
     requires { at + 4 ≤ length s.now }
     ensures { result ≡ number little (bytes_at s.now at 4) }
 {
-    wide(s[at]) + wide(s[at + 1]) * 256 + wide(s[at + 2]) * 65536 + wide(s[at + 3]) * 16777216
+    u32::from_le_bytes([s[at], s[at + 1], s[at + 2], s[at + 3]])
 }
 
 // A byte into lent bytes.
@@ -113,8 +112,7 @@ pub fn put16(d: &mut [u8], at: usize, v: u16)
     requires { at + 2 ≤ length d.old }
     ensures { d.new ≡ put d.old at (bytes_of little 2 v) }
 {
-    d[at] = (v % 256) as u8;
-    d[at + 1] = (v / 256 % 256) as u8;
+    d[at..at + 2].copy_from_slice(&v.to_le_bytes());
 }
 
 // A number into four lent bytes, little-endian.
@@ -122,10 +120,7 @@ pub fn put32(d: &mut [u8], at: usize, v: u32)
     requires { at + 4 ≤ length d.old }
     ensures { d.new ≡ put d.old at (bytes_of little 4 v) }
 {
-    d[at] = (v % 256) as u8;
-    d[at + 1] = (v / 256 % 256) as u8;
-    d[at + 2] = (v / 256 / 256 % 256) as u8;
-    d[at + 3] = (v / 256 / 256 / 256 % 256) as u8;
+    d[at..at + 4].copy_from_slice(&v.to_le_bytes());
 }
 
 // All of `src` into `d` from index `at` on.
@@ -133,9 +128,7 @@ pub fn copy_in(d: &mut [u8], at: usize, src: &[u8])
     requires { at + length src.now ≤ length d.old }
     ensures { d.new ≡ put d.old at src.now }
 {
-    for i in 0..src.len() {
-        d[at + i] = src[i];
-    }
+    d[at..at + src.len()].copy_from_slice(src);
 }
 
 // Does the word stand in `s` from index `at` on?
@@ -143,10 +136,5 @@ pub fn stands_at(s: &[u8], at: usize, word: &[u8]) -> bool
     requires { at + length word.now ≤ length s.now }
     ensures { result ≡ stands_at s.now at word.now }
 {
-    for i in 0..word.len() {
-        if s[at + i] != word[i] {
-            return false;
-        }
-    }
-    true
+    &s[at..at + word.len()] == word
 }

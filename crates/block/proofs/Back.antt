@@ -2,7 +2,7 @@
 use mathlib.Core.Path.{◌≡◌, refl, sym, ap, ◌∙◌}
 use mathlib.Core.List.{List, [], ◌∷◌, ◌++◌, append_assoc, append-nil}
 use mathlib.Core.Bool.{true}
-use mathlib.Core.Option.{none}
+use Rattle.std.specs.Prelude.{None, Option, Some}
 use Prim.Native.Nat.{ℕ, zero, suc, ◌+◌, ◌*◌, ◌≤◌, ◌<◌, ◌^◌}
 use native.Mathlib.Nat.{add-zero, add_assoc}
 use native.Mathlib.Omega.{arith}
@@ -20,10 +20,6 @@ use Rattle.record_ebr.specs.declared.Kept.{Kept}
 use Rattle.record_ebr.specs.Ebr.{mark_length, kept_at}
 use Rattle.record_mbr.specs.declared.MBRHeader.{MBRHeader}
 use Rattle.record_mbr.specs.Mbr.{code_of}
-use Rattle.table.specs.declared.MaybeSectors.{MaybeSectors}
-use Rattle.table.specs.declared.MaybeSectors.TheVariants.{Absent, Present}
-use Rattle.table.specs.declared.MaybeChs.{MaybeChs}
-use Rattle.table.specs.declared.MaybeChs.TheVariants.{Absent as NoChs, Present as SomeChs}
 use Rattle.table.specs.declared.LogicalPartition.{LogicalPartition}
 use Rattle.table.specs.declared.MBR.{MBR}
 use Rattle.table.specs.Table.{most, no_logical}
@@ -42,30 +38,30 @@ entry-back e k =
 
 -- a slot: the fields before the code stand at their places, whatever the tags
 module _ (e : MBRPartitionEntry) (a : ℕ) (f : CHS) (q : List ℕ) where
-  abbrev fields : MaybeSectors → MaybeChs → List ℕ
+  abbrev fields : Option ℕ → Option CHS → List ℕ
   fields m n = entry_part e ++ bytes_of little 4 a ++ sectors_part m ++ chs_part f ++ last_part n ++ q
 
-  entry-there : EntryFits e → (m : MaybeSectors) (n : MaybeChs) → entry_from (fields m n) 0 ≡ e
+  entry-there : EntryFits e → (m : Option ℕ) (n : Option CHS) → entry_from (fields m n) 0 ≡ e
   entry-there k m n = entry-back e k
 
-  place-there : a < 2 ^ 32 → (m : MaybeSectors) (n : MaybeChs) → number little (bytes_at (fields m n) 18 4) ≡ a
+  place-there : a < 2 ^ 32 → (m : Option ℕ) (n : Option CHS) → number little (bytes_at (fields m n) 18 4) ≡ a
   place-there k m n = number-bytes_of little 4 a k
 
-  sectors-there : (m : MaybeSectors) (n : MaybeChs) → SectorsFit m → sectors_in (sectors_tag m + last_tag n) (fields m n) 22 ≡ m
-  sectors-there Absent NoChs k = refl
-  sectors-there Absent (SomeChs c) k = refl
-  sectors-there (Present v) NoChs k = ap Present (number-bytes_of little 4 v k)
-  sectors-there (Present v) (SomeChs c) k = ap Present (number-bytes_of little 4 v k)
+  sectors-there : (m : Option ℕ) (n : Option CHS) → SectorsFit m → sectors_in (sectors_tag m + last_tag n) (fields m n) 22 ≡ m
+  sectors-there None None k = refl
+  sectors-there None (Some c) k = refl
+  sectors-there (Some v) None k = ap Some (number-bytes_of little 4 v k)
+  sectors-there (Some v) (Some c) k = ap Some (number-bytes_of little 4 v k)
 
-  first-there : ChsFits f → (m : MaybeSectors) (n : MaybeChs) → chs_in (fields m n) 26 ≡ f
-  first-there k Absent n = chs-back f k
-  first-there k (Present v) n = chs-back f k
+  first-there : ChsFits f → (m : Option ℕ) (n : Option CHS) → chs_in (fields m n) 26 ≡ f
+  first-there k None n = chs-back f k
+  first-there k (Some v) n = chs-back f k
 
-  last-there : (m : MaybeSectors) (n : MaybeChs) → LastFits n → last_chs_in (sectors_tag m + last_tag n) (fields m n) 30 ≡ n
-  last-there Absent NoChs k = refl
-  last-there Absent (SomeChs c) k = ap SomeChs (chs-back c k)
-  last-there (Present v) NoChs k = refl
-  last-there (Present v) (SomeChs c) k = ap SomeChs (chs-back c k)
+  last-there : (m : Option ℕ) (n : Option CHS) → LastFits n → last_chs_in (sectors_tag m + last_tag n) (fields m n) 30 ≡ n
+  last-there None None k = refl
+  last-there None (Some c) k = ap Some (chs-back c k)
+  last-there (Some v) None k = refl
+  last-there (Some v) (Some c) k = ap Some (chs-back c k)
 
 -- code and mark, behind a front
 kept_there : (f : List ℕ) (k : Kept) → length f ≡ slot_code → KeptLong k → kept_at slot_code slot_mark (f ++ kept_part k) ≡ k
@@ -99,11 +95,11 @@ slot-back l k =
 pub slot-tag : (l : LogicalPartition) → possible (tag_of l) ≡ true
 slot-tag l = go l.ebr_sectors l.ebr_last_chs
   where
-    go : (m : MaybeSectors) (n : MaybeChs) → possible (sectors_tag m + last_tag n) ≡ true
-    go Absent NoChs = refl
-    go Absent (SomeChs c) = refl
-    go (Present v) NoChs = refl
-    go (Present v) (SomeChs c) = refl
+    go : (m : Option ℕ) (n : Option CHS) → possible (sectors_tag m + last_tag n) ≡ true
+    go None None = refl
+    go None (Some c) = refl
+    go (Some v) None = refl
+    go (Some v) (Some c) = refl
 
 -- an entry is read from its bytes alone
 entry-like : (s t : List ℕ) (a b : ℕ) → ((j : ℕ) → get_or s (a + j) 0 ≡ get_or t (b + j) 0) → entry_from s a ≡ entry_from t b
@@ -299,7 +295,7 @@ module _ (t : MBR) (k : TableFits t) where
       }
 
   -- and no check fails on it
-  pub block_reads : t.count ≤ most → first-fail (block_checks (block_bytes t)) ≡ none
+  pub block_reads : t.count ≤ most → first-fail (block_checks (block_bytes t)) ≡ None
   block_reads c =
       rw (eq-eqb _ _ length-block, count-back, le-leb _ _ c, slots-tagged (block_bytes t) (front ++ header_part t.header) t.logical_partitions in_parts m₂ k.slots k.long 0 most (omega arith))
 

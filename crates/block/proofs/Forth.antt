@@ -2,7 +2,7 @@
 use mathlib.Core.Path.{◌≡◌, refl, sym, ap, ◌∙◌}
 use mathlib.Core.List.{List, [], ◌∷◌, ◌++◌}
 use mathlib.Core.Bool.{Bool, true, false}
-use mathlib.Core.Option.{none}
+use Rattle.std.specs.Prelude.{None, Some}
 use Prim.Native.Nat.{ℕ, zero, suc, ◌+◌, ◌*◌, ◌%◌, ◌≤◌, ◌<◌}
 use native.Mathlib.Nat.{add-zero, zero-add, add_assoc}
 use native.Mathlib.Omega.{arith}
@@ -17,8 +17,6 @@ use Rattle.base.proofs.Bytes.{byte_at, bytes_take, bytes_drop, bytes_of-number, 
 use Rattle.base.proofs.Checks.{none-fails}
 use Rattle.record_ebr.specs.Ebr.{mark_length, kept_at}
 use Rattle.record_mbr.specs.Mbr.{code_of}
-use Rattle.table.specs.declared.MaybeSectors.TheVariants.{Absent, Present}
-use Rattle.table.specs.declared.MaybeChs.TheVariants.{Absent as NoChs, Present as SomeChs}
 use Rattle.table.specs.Table.{most}
 use Rattle.block.specs.Block.{part, chs_part, chs_in, entry_part, entry_from, sectors_part, sectors_tag, sectors_in, last_part, last_tag, last_chs_in, kept_part, slot_part, slot_of, tag_of, header_part, header_in, front_part, slots_part, tags_part, slot_at, tag_at, slots_in, possible, tagged, block_bytes, table_in, block_checks, header_length, slot_code, slot_mark, slot_length, slots_offset, tags_offset, block_length}
 use Rattle.block.specs.Clean.{SlotClean, Clean}
@@ -45,14 +43,14 @@ module _ (s : List ℕ) (b : Bytes s) where
   sectors-forth : (tag : ℕ) → (tag % 2 ≡ 0 → bytes_at s 22 4 ≡ replicate 4 0) → sectors_part (sectors_in tag s 22) ≡ bytes_at s 22 4
   sectors-forth tag z = go (eqb (tag % 2) 0) refl
     where
-      go : (t : Bool) → eqb (tag % 2) 0 ≡ t → sectors_part (pick t Absent (Present (number little (bytes_at s 22 4)))) ≡ bytes_at s 22 4
+      go : (t : Bool) → eqb (tag % 2) 0 ≡ t → sectors_part (pick t None (Some (number little (bytes_at s 22 4)))) ≡ bytes_at s 22 4
       go true e = sym (z (eqb-true _ _ e))
       go false e = four-forth 22
 
   last-forth : (tag : ℕ) → (tag < 2 → bytes_at s 30 4 ≡ replicate 4 0) → last_part (last_chs_in tag s 30) ≡ bytes_at s 30 4
   last-forth tag z = go (ltb tag 2) refl
     where
-      go : (t : Bool) → ltb tag 2 ≡ t → last_part (pick t NoChs (SomeChs (chs_in s 30))) ≡ bytes_at s 30 4
+      go : (t : Bool) → ltb tag 2 ≡ t → last_part (pick t None (Some (chs_in s 30))) ≡ bytes_at s 30 4
       go true e = sym (z (ltb-true _ _ e))
       go false e = chs-forth 30
 
@@ -64,7 +62,7 @@ tag-forth tag s p = go (eqb (tag % 2) 0) (ltb tag 2) refl refl
     small = leb-true _ _ p
 
     go : (x y : Bool) → eqb (tag % 2) 0 ≡ x → ltb tag 2 ≡ y
-        → sectors_tag (pick x Absent (Present (number little (bytes_at s 22 4)))) + last_tag (pick y NoChs (SomeChs (chs_in s 30))) ≡ tag
+        → sectors_tag (pick x None (Some (number little (bytes_at s 22 4)))) + last_tag (pick y None (Some (chs_in s 30))) ≡ tag
     go true true e f = omega (arith, small, eqb-true (tag % 2) 0 e, ltb-true tag 2 f)
     go true false e f = omega (arith, small, eqb-true (tag % 2) 0 e, ltb-false tag 2 f)
     go false true e f = omega (arith, small, eqb-false (tag % 2) 0 e, ltb-true tag 2 f)
@@ -139,7 +137,7 @@ tagged-at b i (suc n) (suc k) t h =
     let z : i + suc k ≡ suc i + k = omega arith in
     ap (λ (j : ℕ). possible (tag_at b j)) z ∙ tagged-at b (suc i) n k (both_true (possible (tag_at b i)) (tagged b (suc i) n) t).1 (omega arith)
 
-module _ (b : List ℕ) (k : Bytes b) (f : first-fail (block_checks b) ≡ none) (c : Clean b) where
+module _ (b : List ℕ) (k : Bytes b) (f : first-fail (block_checks b) ≡ None) (c : Clean b) where
   long : length b ≡ block_length
   long = eqb-true _ _ (none-fails (block_checks b) f).0
 

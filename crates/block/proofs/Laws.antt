@@ -1,26 +1,24 @@
 -- Lengths and parts of a block. Assumes nothing.
+use Rattle.record_chs.specs.declared.CHS.{CHS}
+use Rattle.std.specs.Prelude.{Option, Some, None}
 use mathlib.Core.Path.{◌≡◌, refl, sym, ap, ◌∙◌}
 use mathlib.Core.List.{List, [], ◌∷◌, ◌++◌, append_assoc, append-nil}
 use Prim.Native.Nat.{ℕ, suc, ◌+◌}
 use lib.ListN.{length, length-append}
 use lib.Seq.{take_at, drop_at}
 use Rattle.base.specs.Bytes.{bytes_of, little}
-use Rattle.table.specs.declared.MaybeSectors.{MaybeSectors}
-use Rattle.table.specs.declared.MaybeSectors.TheVariants.{Absent, Present}
-use Rattle.table.specs.declared.MaybeChs.{MaybeChs}
-use Rattle.table.specs.declared.MaybeChs.TheVariants.{Absent as NoChs, Present as SomeChs}
 use Rattle.table.specs.declared.LogicalPartition.{LogicalPartition}
 use Rattle.record_ebr.specs.Ebr.{mark_length}
 use Rattle.block.specs.Fits.{KeptLong}
 use Rattle.block.specs.Block.{part, chs_part, entry_part, sectors_part, last_part, slot_front, kept_part, slot_part, slots_part, tag_of, tags_part, slot_length}
 
-pub length-sectors : (m : MaybeSectors) → length (sectors_part m) ≡ 4
-length-sectors Absent = refl
-length-sectors (Present v) = refl
+pub length-sectors : (m : Option ℕ) → length (sectors_part m) ≡ 4
+length-sectors None = refl
+length-sectors (Some v) = refl
 
-pub length_last : (m : MaybeChs) → length (last_part m) ≡ 4
-length_last NoChs = refl
-length_last (SomeChs c) = refl
+pub length_last : (m : Option CHS) → length (last_part m) ≡ 4
+length_last None = refl
+length_last (Some c) = refl
 
 pub length_front : (l : LogicalPartition) → length (slot_front l) ≡ 34
 length_front l =

@@ -1,5 +1,5 @@
 -- The table block: a table as bytes at fixed offsets, every number little-endian. Assumes nothing.
-use Rattle.std.specs.Prelude.{ℕ, zero, suc, ◌+◌, ◌*◌, ◌%◌, ◌≤◌, List, [], ◌∷◌, ◌++◌, Bool, true, ◌&&◌, ◌≡◌, eqb, leb, ltb, length, get_or, take, drop}
+use Rattle.std.specs.Prelude.{ℕ, zero, suc, ◌+◌, ◌*◌, ◌%◌, ◌≤◌, List, [], ◌∷◌, ◌++◌, Bool, true, ◌&&◌, ◌≡◌, eqb, leb, ltb, length, get_or, take, drop, Option, Some, None}
 use Rattle.base.specs.Pick.{pick}
 use Rattle.base.specs.Bytes.{bytes_at, number, bytes_of, little}
 use Rattle.base.specs.Put.{put}
@@ -11,10 +11,6 @@ use Rattle.record_ebr.specs.declared.Kept.{Kept}
 use Rattle.record_ebr.specs.Ebr.{mark_length, kept_at}
 use Rattle.record_mbr.specs.declared.MBRHeader.{MBRHeader}
 use Rattle.record_mbr.specs.Mbr.{code_of}
-use Rattle.table.specs.declared.MaybeSectors.{MaybeSectors}
-use Rattle.table.specs.declared.MaybeSectors.TheVariants.{Absent, Present}
-use Rattle.table.specs.declared.MaybeChs.{MaybeChs}
-use Rattle.table.specs.declared.MaybeChs.TheVariants.{Absent as NoChs, Present as SomeChs}
 use Rattle.table.specs.declared.LogicalPartition.{LogicalPartition}
 use Rattle.table.specs.declared.MBR.{MBR}
 use Rattle.table.specs.Table.{most, count_check}
@@ -75,31 +71,31 @@ entry_from s at =
     }
 
 -- rule Z11: a value that may be absent; its bytes are zero then when written, and ignored when read
-abbrev pub sectors_part : MaybeSectors → List ℕ
-sectors_part Absent = bytes_of little 4 0
-sectors_part (Present v) = bytes_of little 4 v
+abbrev pub sectors_part : Option ℕ → List ℕ
+sectors_part None = bytes_of little 4 0
+sectors_part (Some v) = bytes_of little 4 v
 
-abbrev pub last_part : MaybeChs → List ℕ
-last_part NoChs = chs_part no_chs
-last_part (SomeChs c) = chs_part c
+abbrev pub last_part : Option CHS → List ℕ
+last_part None = chs_part no_chs
+last_part (Some c) = chs_part c
 
 -- rule Z11: a slot's tag tells which of the two is there, 1 the link sectors, 2 the last link address, 3 both, 0 none
-abbrev pub sectors_tag : MaybeSectors → ℕ
-sectors_tag Absent = 0
-sectors_tag (Present v) = 1
+abbrev pub sectors_tag : Option ℕ → ℕ
+sectors_tag None = 0
+sectors_tag (Some v) = 1
 
-abbrev pub last_tag : MaybeChs → ℕ
-last_tag NoChs = 0
-last_tag (SomeChs c) = 2
+abbrev pub last_tag : Option CHS → ℕ
+last_tag None = 0
+last_tag (Some c) = 2
 
 abbrev pub tag_of : LogicalPartition → ℕ
 tag_of l = sectors_tag l.ebr_sectors + last_tag l.ebr_last_chs
 
-abbrev pub sectors_in : ℕ → List ℕ → ℕ → MaybeSectors
-sectors_in tag s at = pick (eqb (tag % 2) 0) Absent (Present (number little (bytes_at s at 4)))
+abbrev pub sectors_in : ℕ → List ℕ → ℕ → Option ℕ
+sectors_in tag s at = pick (eqb (tag % 2) 0) None (Some (number little (bytes_at s at 4)))
 
-abbrev pub last_chs_in : ℕ → List ℕ → ℕ → MaybeChs
-last_chs_in tag s at = pick (ltb tag 2) NoChs (SomeChs (chs_in s at))
+abbrev pub last_chs_in : ℕ → List ℕ → ℕ → Option CHS
+last_chs_in tag s at = pick (ltb tag 2) None (Some (chs_in s at))
 
 -- rule Z11: a slot, entry, EBR place, link sectors, first and last link address, code, mark
 abbrev pub slot_front : LogicalPartition → List ℕ

@@ -1,23 +1,21 @@
 -- Tables whose numbers fit a block's fields, as those of a table by value do but for its count of 64 bits. Assumes nothing.
-use Rattle.std.specs.Prelude.{◌<◌, ◌^◌, List, [], ◌∷◌, ◌≡◌, length}
+use Rattle.record_chs.specs.declared.CHS.{CHS}
+use Rattle.std.specs.Prelude.{ℕ}
+use Rattle.std.specs.Prelude.{◌<◌, ◌^◌, List, [], ◌∷◌, ◌≡◌, length, Option, Some, None}
 use Rattle.record_ebr.specs.declared.Kept.{Kept}
 use Rattle.record_ebr.specs.Ebr.{mark_length}
 use Rattle.record_mbr.specs.Fits.{ChsFits, EntryFits, HeaderFits}
-use Rattle.table.specs.declared.MaybeSectors.{MaybeSectors}
-use Rattle.table.specs.declared.MaybeSectors.TheVariants.{Absent, Present}
-use Rattle.table.specs.declared.MaybeChs.{MaybeChs}
-use Rattle.table.specs.declared.MaybeChs.TheVariants.{Absent as NoChs, Present as SomeChs}
 use Rattle.table.specs.declared.LogicalPartition.{LogicalPartition}
 use Rattle.table.specs.declared.MBR.{MBR}
 use Rattle.table.specs.Table.{most}
 
-abbrev pub SectorsFit : MaybeSectors → Type 0
-SectorsFit Absent = Unit {0}
-SectorsFit (Present v) = v < 2 ^ 32
+abbrev pub SectorsFit : Option ℕ → Type 0
+SectorsFit None = Unit {0}
+SectorsFit (Some v) = v < 2 ^ 32
 
-abbrev pub LastFits : MaybeChs → Type 0
-LastFits NoChs = Unit {0}
-LastFits (SomeChs c) = ChsFits c
+abbrev pub LastFits : Option CHS → Type 0
+LastFits None = Unit {0}
+LastFits (Some c) = ChsFits c
 
 -- code and mark are as long as their arrays
 pub record KeptLong (k : Kept) : Type 0 where

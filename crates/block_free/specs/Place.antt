@@ -1,6 +1,6 @@
 -- The place that is asked for. Assumes nothing.
 use Rattle.std.specs.Prelude.{ℕ}
-use Rattle.std.proofs.Math.Option.{Option}
+use Rattle.std.specs.Prelude.{Option}
 use Rattle.base.specs.Said.{Said}
 use Rattle.table.specs.declared.MBR.{MBR}
 use Rattle.table_place.specs.Place.{first_place, last_place, optimal_place}

@@ -20,9 +20,7 @@ pub fn put_runs(out: &mut [u8], x: Runs)
     requires { (x.count ≤ most_runs) × (run_bytes ≤ length out.old) }
     ensures { out.new ≡ put out.old 0 (runs_part (runs_in x)) }
 {
-    let n = x.count;
-    for i in 0..n {
-        let r = x.at[i];
-        put_run(out, i * 8, r);
+    for (i, r) in x.at[..x.count].iter().enumerate() {
+        put_run(out, i * 8, *r);
     }
 }

@@ -1,6 +1,6 @@
 -- An entry into lent bytes. Assumes nothing.
 use Rattle.std.specs.Prelude.{ℕ, List, [], ◌∷◌, leb, length}
-use Rattle.std.proofs.Math.Option.{Option, none, some}
+use Rattle.std.specs.Prelude.{Option, None, Some}
 use Rattle.base.specs.Put.{put}
 use Rattle.base.specs.Said.{Said, gives, refuses}
 use Rattle.base.specs.Checks.{Check, ◌!◌, checked}
@@ -15,11 +15,11 @@ entry_checks room = (19 ! leb entry_length room) ∷ []
 -- a refusal; nothing; an entry 0, or 19 for want of room
 abbrev pub entry_status : ℕ → Said (Option MBRPartitionEntry) → ℕ
 entry_status room (refuses k) = k
-entry_status room (gives none) = nothing
-entry_status room (gives (some e)) = checked (entry_checks room) (λ k. k) 0
+entry_status room (gives None) = nothing
+entry_status room (gives (Some e)) = checked (entry_checks room) (λ k. k) 0
 
 -- the lent bytes after: only an entry that has room is put there, at the start (rule Z48)
 abbrev pub entry_after : List ℕ → Said (Option MBRPartitionEntry) → List ℕ
 entry_after out (refuses k) = out
-entry_after out (gives none) = out
-entry_after out (gives (some e)) = checked (entry_checks (length out)) (λ _. out) (put out 0 (entry_part e))
+entry_after out (gives None) = out
+entry_after out (gives (Some e)) = checked (entry_checks (length out)) (λ _. out) (put out 0 (entry_part e))

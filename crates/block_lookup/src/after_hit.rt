@@ -1,38 +1,42 @@
 // The search among the logical partitions of a block, and what a hit among its primaries leads to. Internal: the block has passed its checks.
 ghost use Rattle.std.specs.Prelude.{◌≡◌};
-ghost use Rattle.std.proofs.Math.Option.{some};
+ghost use Rattle.std.specs.Prelude.{Some};
+ghost use Rattle.base.specs.Said.{answered};
 ghost use Rattle.block.specs.Block.{table_in, Passed};
 ghost use Rattle.table_lookup.specs.Hits.{numbered, among_logicals};
-ghost use Rattle.table_lookup.specs.Find.{number_of, turned, spot_said};
+ghost use Rattle.table_lookup.specs.Find.{number_of, turned};
 
+use base::Refusal;
 use record_entry::MBRPartitionEntry;
-use table_lookup::at_sector::AtSector;
-use table_lookup::hits::Holds;
 
 // The first logical partition that holds a sector; the search ends at a hit or a refusal.
-fn among_logicals(b: &[u8], sector: u32) -> AtSector
+fn among_logicals(b: &[u8], sector: u32) -> Result<Option<u32>, Refusal>
     requires { Passed b.now }
-    ensures { spot_said result ≡ number_of (among_logicals (table_in b.now) sector) }
+    ensures { answered result ≡ number_of (among_logicals (table_in b.now) sector) }
 {
     let n = block_read::fields::count(b);
+    // By number: the partitions stand in the bytes of the block and not in a slice.
     for i in 0..n {
         let e = block_read::fields::logical(b, i);
-        match table_lookup::hits::is_within(sector, e) {
-            Holds::No => {}
-            Holds::Yes => return AtSector::Number(5 + i),
-            Holds::Refused(k) => return AtSector::Refused(k),
+        if table_lookup::hits::is_within(sector, e)? {
+            return Ok(Some((5 + i) as u32));
         }
     }
-    AtSector::Nothing
+    Ok(None)
 }
 
 // What a hit among the primaries leads to: an extended entry is never answered.
-pub fn after_hit(b: &[u8], sector: u32, number: usize, e: MBRPartitionEntry) -> AtSector
+pub fn after_hit(
+    b: &[u8],
+    sector: u32,
+    number: u32,
+    e: MBRPartitionEntry,
+) -> Result<Option<u32>, Refusal>
     requires { Passed b.now }
-    ensures { spot_said result ≡ turned (table_in b.now) sector (some (numbered number e)) }
+    ensures { answered result ≡ turned (table_in b.now) sector (Some (numbered number e)) }
 {
     if e.is_extended() {
         return among_logicals(b, sector);
     }
-    AtSector::Number(number)
+    Ok(Some(number))
 }

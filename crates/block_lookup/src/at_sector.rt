@@ -1,24 +1,31 @@
-// The partition that holds a sector, in a block where it lies. Internal: the block has passed its checks.
+// The partition that holds a sector, in a block where it lies.
 ghost use Rattle.std.specs.Prelude.{◌≡◌};
+ghost use Rattle.base.specs.Said.{answered, and_then};
 ghost use Rattle.block.specs.Block.{table_in, Passed};
-ghost use Rattle.table_lookup.specs.Find.{find_says, spot_said};
+ghost use Rattle.block.specs.Blocks.{block_says};
+ghost use Rattle.table_lookup.specs.Find.{find_says};
 
-use table_lookup::at_sector::AtSector;
-use table_lookup::hits::Holds;
+use base::Refusal;
 
-// The number of the primary or logical partition that holds a sector: 7.
-pub fn find(b: &[u8], sector: u32) -> AtSector
+// The number of the primary or logical partition that holds a sector, in a block that has passed its checks: 7.
+pub fn find(b: &[u8], sector: u32) -> Result<Option<u32>, Refusal>
     requires { Passed b.now }
-    ensures { spot_said result ≡ find_says (table_in b.now) sector }
+    ensures { answered result ≡ find_says (table_in b.now) sector }
 {
-    let n: usize = 4;
-    for i in 0..n {
+    // By number: the entries stand in the bytes of the block and not in a slice.
+    for i in 0..4 {
         let e = block_read::fields::primary(b, i);
-        match table_lookup::hits::is_within(sector, e) {
-            Holds::No => {}
-            Holds::Yes => return crate::after_hit::after_hit(b, sector, 1 + i, e),
-            Holds::Refused(k) => return AtSector::Refused(k),
+        if table_lookup::hits::is_within(sector, e)? {
+            return crate::after_hit::after_hit(b, sector, (1 + i) as u32, e);
         }
     }
-    AtSector::Nothing
+    Ok(None)
+}
+
+// The number of the partition that holds a sector: the block's refusals, 7.
+pub fn find_at_sector(b: &[u8], sector: u32) -> Result<Option<u32>, Refusal>
+    ensures { answered result ≡ and_then (block_says b.now) (λ t. find_says t sector) }
+{
+    block_read::checks::check(b)?;
+    find(b, sector)
 }

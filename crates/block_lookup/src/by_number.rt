@@ -1,23 +1,35 @@
-// The entry of a partition number, in a block where it lies. Internal: the block has passed its checks.
+// The entry of a partition number, in a block where it lies.
 ghost use Rattle.std.specs.Prelude.{◌≡◌};
+ghost use Rattle.base.specs.Said.{answered, and_then, gives};
 ghost use Rattle.block.specs.Block.{table_in, Passed};
-ghost use Rattle.table_lookup.specs.Numbers.{get_says, got_said};
+ghost use Rattle.block.specs.Blocks.{block_says};
+ghost use Rattle.table_lookup.specs.Numbers.{get_says};
 
-use table_lookup::{Got, Kind};
+use base::Refusal;
+use record_entry::MBRPartitionEntry;
+use table_lookup::Kind;
 
-// The entry of a partition number.
-pub fn get(b: &[u8], number: usize) -> Got
+// The entry of a partition number, in a block that has passed its checks.
+pub fn entry(b: &[u8], number: u32) -> Option<MBRPartitionEntry>
     requires { Passed b.now }
-    ensures { got_said result ≡ get_says (table_in b.now) number }
+    ensures { gives result ≡ get_says (table_in b.now) number }
 {
-    match table_lookup::kind_of(number) {
-        Kind::Nothing => Got::Nothing,
-        Kind::Primary(i) => Got::Entry(block_read::fields::primary(b, i - 1)),
+    match table_lookup::kind_of(number as usize) {
+        Kind::Nothing => None,
+        Kind::Primary(i) => Some(block_read::fields::primary(b, i - 1)),
         Kind::Logical(k) => {
             if block_read::fields::count(b) <= k {
-                return Got::Nothing;
+                return None;
             }
-            Got::Entry(block_read::fields::logical(b, k))
+            Some(block_read::fields::logical(b, k))
         }
     }
+}
+
+// The entry of a partition number: the block's refusals.
+pub fn get(b: &[u8], number: u32) -> Result<Option<MBRPartitionEntry>, Refusal>
+    ensures { answered result ≡ and_then (block_says b.now) (λ t. get_says t number) }
+{
+    block_read::checks::check(b)?;
+    Ok(entry(b, number))
 }

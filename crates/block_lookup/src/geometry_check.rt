@@ -1,33 +1,34 @@
-// How many partitions a block has, and its geometry.
+// How many partitions a block has, and its geometry: each with the block's refusals.
 ghost use Rattle.std.specs.Prelude.{◌≡◌};
+ghost use Rattle.base.specs.Said.{answered, and_then};
+ghost use Rattle.block.specs.Blocks.{block_says};
 ghost use Rattle.table_lookup.specs.Numbers.{len_says};
-ghost use Rattle.block.specs.Block.{table_in, Passed};
 ghost use Rattle.table_push.specs.Answers.{check_geometry_says, cylinder_size_says};
-ghost use Rattle.abi_word.specs.Packed.{packed, packed_bool};
 
-pub fn len_on(b: &[u8]) -> u64
-    requires { Passed b.now }
-    ensures { result ≡ packed (len_says (table_in b.now)) }
+use base::Refusal;
+
+// How many partitions, the four primaries always counted.
+pub fn len(b: &[u8]) -> Result<u32, Refusal>
+    ensures { answered result ≡ and_then (block_says b.now) len_says }
 {
+    block_read::checks::check(b)?;
     let n = block_read::fields::count(b);
-    (4 + n) as u64
+    Ok((4 + n) as u32)
 }
 
-pub fn check_on(b: &[u8]) -> u64
-    requires { Passed b.now }
-    ensures { result ≡ packed_bool (check_geometry_says (table_in b.now)) }
+// Whether the geometry is complete.
+pub fn check_geometry(b: &[u8]) -> Result<bool, Refusal>
+    ensures { answered result ≡ and_then (block_says b.now) check_geometry_says }
 {
+    block_read::checks::check(b)?;
     let g = block_read::fields::geometry(b);
-    if table_push::is_complete(g) {
-        return 1;
-    }
-    0
+    Ok(table_push::is_complete(g))
 }
 
-pub fn size_on(b: &[u8]) -> u64
-    requires { Passed b.now }
-    ensures { result ≡ packed (cylinder_size_says (table_in b.now)) }
+// The sectors of a cylinder.
+pub fn get_cylinder_size(b: &[u8]) -> Result<u32, Refusal>
+    ensures { answered result ≡ and_then (block_says b.now) cylinder_size_says }
 {
-    let n = base::wide(b[18]) * base::wide(b[19]);
-    n as u64
+    block_read::checks::check(b)?;
+    Ok(b[18] as u32 * b[19] as u32)
 }

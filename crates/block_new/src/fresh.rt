@@ -1,36 +1,23 @@
 // A new table as a block: the table that an answer gives, and a disk signature's bytes.
 ghost use Rattle.std.specs.Prelude.{◌≡◌, length};
 ghost use Rattle.base.specs.Bytes.{bytes_of, little};
-ghost use Rattle.block.specs.Blocks.{refusal_number};
+ghost use Rattle.base.specs.Said.{answered, refusal, failure};
 ghost use Rattle.block_new.specs.Put.{block_after, alone};
-ghost use Rattle.block_new.specs.Given.{table_said};
 
-use base::Answer;
-use table_lookup::TableAnswer;
+use base::Refusal;
+use table::MBR;
 
-// Puts the table that an answer gives into a lent block: the refusal, 6, 101, or 0.
-pub fn put_given(a: TableAnswer, out: &mut [u8]) -> u8
-    ensures value { result ≡ refusal_number (alone (length out.old) (table_said a)) }
-    ensures out_after { out.new ≡ block_after out.old (table_said a) }
+// Puts the table that an answer gives into a lent block: the answer's refusal, 6, 101.
+pub fn put_given(t: Result<MBR, Refusal>, out: &mut [u8]) -> Result<(), Refusal>
+    ensures said { refusal result ≡ failure (alone (length out.old) (answered t)) }
+    ensures left { out.new ≡ block_after out.old (answered t) }
 {
-    let answer = a.answer;
-    match answer {
-        Answer::Refused(n) => n.number,
-        Answer::Done => {
-            let t = a.table;
-            crate::table_put::put_table(t, out)
-        }
-    }
+    block_write::put(t?, out)
 }
 
 // A number's four bytes, little-endian.
 pub fn four(v: u32) -> [u8; 4]
     ensures { result ≡ bytes_of little 4 v }
 {
-    [
-        (v % 256) as u8,
-        (v / 256 % 256) as u8,
-        (v / 256 / 256 % 256) as u8,
-        (v / 256 / 256 / 256 % 256) as u8,
-    ]
+    v.to_le_bytes()
 }

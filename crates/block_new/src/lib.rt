@@ -1,8 +1,7 @@
 // A new table as a block, or a block put on another disk.
 // Scope: module 5 (`new_from`, `update_from`), for C. Rules: Z.
-// For our crates: `fresh::put_given`, `other_disk::update_on`, `table_put::put_alone`.
+// For our crates: `fresh::put_given`, `fresh::four`, `other_disk::update_from`.
 #![tactic(auto)]
 
 pub mod fresh;
 pub mod other_disk;
-pub mod table_put;

@@ -10,13 +10,11 @@ pub fn request_in(b: &[u8], sys: u8, start: u32, sectors: u32) -> Request
     requires { length b.now ≡ block_length }
     ensures { result ≡ request_of (table_in b.now) sys start sectors }
 {
-    let align = base::get32(b, 8);
-    let g = block_read::fields::geometry(b);
     Request {
-        align: align,
-        geometry: g,
-        sys: sys,
-        start: start,
-        sectors: sectors,
+        align: base::get32(b, 8),
+        geometry: block_read::fields::geometry(b),
+        sys,
+        start,
+        sectors,
     }
 }

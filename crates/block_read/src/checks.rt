@@ -4,21 +4,21 @@ ghost use Rattle.base.specs.Said.{refusal};
 ghost use Rattle.base.specs.Checks.{first-fail};
 ghost use Rattle.block.specs.Block.{block_checks};
 
-use base::{Answer, Refusal};
+use base::Refusal;
 use table::LOGICALS;
 
 // Does a lent block hold a table? 101, 6, 102.
-pub fn check(b: &[u8]) -> Answer
+pub fn check(b: &[u8]) -> Result<(), Refusal>
     ensures { refusal result ≡ first-fail (block_checks b.now) }
 {
     if b.len() != block::BLOCK {
-        return Answer::Refused(Refusal::BLOCK_LENGTH);
+        return Err(Refusal::BlockLength);
     }
     if (LOGICALS as u32) < base::get32(b, 12) {
-        return Answer::Refused(Refusal::TOO_MANY);
+        return Err(Refusal::TooManyLogicals);
     }
     if !crate::tags::all_tagged(b) {
-        return Answer::Refused(Refusal::BLOCK_TAG);
+        return Err(Refusal::BlockTag);
     }
-    Answer::Done
+    Ok(())
 }

@@ -1,14 +1,13 @@
 // What stands in a block, read where it stands. Internal: the block has passed its checks.
 ghost use Rattle.std.specs.Prelude.{◌≡◌, ◌<◌, length, get_or};
 ghost use Rattle.record_entry.specs.Entry.{no_entry};
-ghost use Rattle.record_mbr.specs.Mbr.{primaries, found};
+ghost use Rattle.record_mbr.specs.Mbr.{primaries};
 ghost use Rattle.table.specs.Table.{extended_in, no_logical, most};
 ghost use Rattle.block.specs.Block.{table_in, block_length};
 ghost use Rattle.table_address.specs.Answers.{geometry_in};
 
 use block::{ENTRY, HEADER};
 use record_entry::MBRPartitionEntry;
-use record_mbr::Found;
 use table::LogicalPartition;
 use table_address::Geometry;
 
@@ -25,9 +24,8 @@ pub fn geometry(b: &[u8]) -> Geometry
     requires { length b.now ≡ block_length }
     ensures { result ≡ geometry_in (table_in b.now).cylinders (table_in b.now).heads (table_in b.now).sectors }
 {
-    let cylinders = base::get16(b, 16);
     Geometry {
-        cylinders: cylinders,
+        cylinders: base::get16(b, 16),
         heads: b[18],
         sectors: b[19],
     }
@@ -42,18 +40,18 @@ pub fn primary(b: &[u8], i: usize) -> MBRPartitionEntry
 }
 
 // The first extended entry.
-pub fn extended(b: &[u8]) -> Found
+pub fn extended(b: &[u8]) -> Option<MBRPartitionEntry>
     requires { length b.now ≡ block_length }
-    ensures { found result ≡ extended_in (table_in b.now) }
+    ensures { result ≡ extended_in (table_in b.now) }
 {
-    let n: usize = 4;
-    for i in 0..n {
+    // By number: the entries stand in the bytes of the block and not in a slice.
+    for i in 0..4 {
         let e = primary(b, i);
         if e.is_extended() {
-            return Found::Entry(e);
+            return Some(e);
         }
     }
-    Found::Nothing
+    None
 }
 
 // The entry of a logical partition, counted from 0.

@@ -6,7 +6,7 @@ ghost use Rattle.block.specs.Block.{part, chs_in, entry_from, sectors_in, last_c
 use block::{SLOT, SLOT_CODE, SLOT_MARK};
 use record_chs::CHS;
 use record_entry::MBRPartitionEntry;
-use table::{DiskLba, LogicalPartition, MaybeChs, MaybeSectors};
+use table::{DiskLba, LogicalPartition};
 
 // The n bytes from index `at` on.
 pub fn part_of<'a>(b: &'a [u8], at: usize, n: usize) -> &'a [u8]
@@ -20,9 +20,8 @@ fn get_chs(s: &[u8], at: usize) -> CHS
     requires { at + 4 ≤ length s.now }
     ensures { result ≡ chs_in s.now at }
 {
-    let cylinder = base::get16(s, at);
     CHS {
-        cylinder: cylinder,
+        cylinder: base::get16(s, at),
         head: s[at + 2],
         sector: s[at + 3],
     }
@@ -32,40 +31,36 @@ pub fn get_entry(s: &[u8], at: usize) -> MBRPartitionEntry
     requires { at + entry_length ≤ length s.now }
     ensures { result ≡ entry_from s.now at }
 {
-    let first = get_chs(s, at + 1);
-    let last = get_chs(s, at + 6);
-    let start = base::get32(s, at + 10);
-    let sectors = base::get32(s, at + 14);
     MBRPartitionEntry {
         boot: s[at],
-        first_chs: first,
+        first_chs: get_chs(s, at + 1),
         sys: s[at + 5],
-        last_chs: last,
-        starting_lba: start,
-        sectors: sectors,
+        last_chs: get_chs(s, at + 6),
+        starting_lba: base::get32(s, at + 10),
+        sectors: base::get32(s, at + 14),
     }
 }
 
 // A number of sectors, if a slot's tag has it.
-fn get_sectors(s: &[u8], at: usize, tag: u8) -> MaybeSectors
+fn get_sectors(s: &[u8], at: usize, tag: u8) -> Option<u32>
     requires { at + 4 ≤ length s.now }
     ensures { result ≡ sectors_in tag s.now at }
 {
     if tag % 2 == 0 {
-        return MaybeSectors::Absent;
+        return None;
     }
-    MaybeSectors::Present(base::get32(s, at))
+    Some(base::get32(s, at))
 }
 
 // An address, if a slot's tag has it.
-fn get_last(s: &[u8], at: usize, tag: u8) -> MaybeChs
+fn get_last(s: &[u8], at: usize, tag: u8) -> Option<CHS>
     requires { at + 4 ≤ length s.now }
     ensures { result ≡ last_chs_in tag s.now at }
 {
     if tag < 2 {
-        return MaybeChs::Absent;
+        return None;
     }
-    MaybeChs::Present(get_chs(s, at))
+    Some(get_chs(s, at))
 }
 
 // The bytes of slot i of a block.
@@ -81,19 +76,13 @@ pub fn get_slot(s: &[u8], tag: u8) -> LogicalPartition
     requires { slot_length ≤ length s.now }
     ensures { result ≡ slot_of tag s.now }
 {
-    let partition = get_entry(s, 0);
-    let place = base::get32(s, 18);
-    let sectors = get_sectors(s, 22, tag);
-    let first = get_chs(s, 26);
-    let last = get_last(s, 30, tag);
-    let kept = record_ebr::kept_at(s, SLOT_CODE, SLOT_MARK);
     LogicalPartition {
-        partition: partition,
-        absolute_ebr_lba: DiskLba(place),
-        ebr_sectors: sectors,
-        ebr_first_chs: first,
-        ebr_last_chs: last,
-        kept: kept,
+        partition: get_entry(s, 0),
+        absolute_ebr_lba: DiskLba(base::get32(s, 18)),
+        ebr_sectors: get_sectors(s, 22, tag),
+        ebr_first_chs: get_chs(s, 26),
+        ebr_last_chs: get_last(s, 30, tag),
+        kept: record_ebr::kept_at(s, SLOT_CODE, SLOT_MARK),
     }
 }
 

@@ -35,6 +35,7 @@ fn words_tagged(b: &[u8]) -> bool
     ensures { result ≡ tagged b.now 0 (8 * (most / 8)) }
 {
     let mut all: u64 = 0;
+    // By number: eight tags are one word of the block, read at its place; tag by tag misses the bar of speed.
     for i in 0..WORDS {
         all |= get64(b, TAGS_OFFSET + WORD * i);
     }
@@ -46,6 +47,7 @@ fn rest_tagged(b: &[u8]) -> bool
     requires { length b.now ≡ block_length }
     ensures { result ≡ tagged b.now (8 * (most / 8)) (most % 8) }
 {
+    // By number: a tag is one of those behind the whole words, and the loop before counts words; a slice would be no plainer.
     for i in IN_WORDS..LOGICALS {
         if 3 < b[TAGS_OFFSET + i] {
             return false;

@@ -1,27 +1,28 @@
 // Removal of a partition by its number from a block, where it lies.
 ghost use Rattle.std.specs.Prelude.{◌≡◌, ◌<◌, ◌+◌};
-ghost use Rattle.base.specs.Said.{value_or};
+ghost use Rattle.base.specs.Said.{refusal, failure, and_then};
 ghost use Rattle.block.specs.Block.{table_in, Passed};
-ghost use Rattle.block.specs.Blocks.{refusal_number};
+ghost use Rattle.block.specs.Blocks.{block_says, bytes_after};
 ghost use Rattle.block_remove.specs.ByNumberRemoved.{removed_on, without_number};
 
+use base::Refusal;
 use table_lookup::Kind;
 
-// Removal of a logical partition by its number from the table in a block.
-pub fn remove_on(b: &mut [u8], i: u32) -> u8
-    requires { Passed b.old }
-    ensures value { result ≡ refusal_number (removed_on b.old i (table_in b.old)) }
-    ensures b_after { b.new ≡ value_or b.old (removed_on b.old i (table_in b.old)) }
+// Removes a logical partition by its number from the table in a block: the block's refusals, 17.
+pub fn remove(b: &mut [u8], number: u32) -> Result<(), Refusal>
+    ensures said { refusal result ≡ failure (and_then (block_says b.old) (removed_on b.old number)) }
+    ensures left { b.new ≡ bytes_after b.old (removed_on b.old number) }
 {
-    let Kind::Logical(k) = table_lookup::kind_of(i as usize) else {
-        return 17;
+    block_read::checks::check(b)?;
+    let Kind::Logical(k) = table_lookup::kind_of(number as usize) else {
+        return Err(Refusal::NoSuchLogical);
     };
     let n = block_read::fields::count(b);
     if n <= k {
-        return 17;
+        return Err(Refusal::NoSuchLogical);
     }
     block_slot::slot_drop::drop_slot(b, n, k);
-    0
+    Ok(())
 }
 
 // A block without partition number n.

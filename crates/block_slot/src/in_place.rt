@@ -22,8 +22,7 @@ pub fn clear_primary(b: &mut [u8], i: usize)
     requires { (length b.old ≡ block_length) × (1 ≤ i) × (i < 5) }
     ensures { b.new ≡ without_entry b.old i }
 {
-    let e = MBRPartitionEntry::empty();
-    crate::slot_out::put_entry(b, 466 + ENTRY * (i - 1), e);
+    crate::slot_out::put_entry(b, 466 + ENTRY * (i - 1), MBRPartitionEntry::empty());
 }
 
 // Another sector size and D.

@@ -9,12 +9,10 @@ use block::SLOT;
 
 // The n bytes from index `to + by` on, `by` places earlier.
 fn move_down(b: &mut [u8], to: usize, by: usize, n: usize)
-    requires { (to + by + n ≤ length b.old) × (1 ≤ by) }
+    requires { to + by + n ≤ length b.old }
     ensures { b.new ≡ put b.old to (part b.old (to + by) n) }
 {
-    for i in 0..n {
-        b[to + i] = b[to + by + i];
-    }
+    b.copy_within(to + by..to + by + n, to);
 }
 
 // Logical partition k of n, counted from 0, away: the slots behind it and their tags move.

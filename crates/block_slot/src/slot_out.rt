@@ -6,7 +6,7 @@ ghost use Rattle.block.specs.Block.{chs_part, entry_part, sectors_part, last_par
 use block::{SLOT_CODE, SLOT_MARK};
 use record_chs::CHS;
 use record_entry::MBRPartitionEntry;
-use table::{LogicalPartition, MaybeChs, MaybeSectors};
+use table::LogicalPartition;
 
 fn put_chs(d: &mut [u8], at: usize, c: CHS)
     requires { at + 4 ≤ length d.old }
@@ -22,44 +22,27 @@ pub fn put_entry(d: &mut [u8], at: usize, e: MBRPartitionEntry)
     ensures { d.new ≡ put d.old at (entry_part e) }
 {
     base::put8(d, at, e.boot);
-    let first = e.first_chs;
-    put_chs(d, at + 1, first);
+    put_chs(d, at + 1, e.first_chs);
     base::put8(d, at + 5, e.sys);
-    let last = e.last_chs;
-    put_chs(d, at + 6, last);
+    put_chs(d, at + 6, e.last_chs);
     base::put32(d, at + 10, e.starting_lba);
     base::put32(d, at + 14, e.sectors);
 }
 
 // A number of sectors; zeros for an absent one.
-fn put_sectors(d: &mut [u8], at: usize, m: MaybeSectors)
+fn put_sectors(d: &mut [u8], at: usize, m: Option<u32>)
     requires { at + 4 ≤ length d.old }
     ensures { d.new ≡ put d.old at (sectors_part m) }
 {
-    match m {
-        MaybeSectors::Absent => {
-            base::put32(d, at, 0);
-        }
-        MaybeSectors::Present(v) => {
-            base::put32(d, at, v);
-        }
-    }
+    base::put32(d, at, m.unwrap_or(0));
 }
 
 // An address; zeros for an absent one.
-fn put_last(d: &mut [u8], at: usize, m: MaybeChs)
+fn put_last(d: &mut [u8], at: usize, m: Option<CHS>)
     requires { at + 4 ≤ length d.old }
     ensures { d.new ≡ put d.old at (last_part m) }
 {
-    match m {
-        MaybeChs::Absent => {
-            let none = CHS::empty();
-            put_chs(d, at, none);
-        }
-        MaybeChs::Present(c) => {
-            put_chs(d, at, c);
-        }
-    }
+    put_chs(d, at, m.unwrap_or(CHS::empty()));
 }
 
 // The 34 bytes of a logical partition before its code.
@@ -67,15 +50,11 @@ fn put_slot_front(d: &mut [u8], at: usize, l: LogicalPartition)
     requires { at + 34 ≤ length d.old }
     ensures { d.new ≡ put d.old at (slot_front l) }
 {
-    let e = l.partition;
-    put_entry(d, at, e);
+    put_entry(d, at, l.partition);
     base::put32(d, at + 18, l.absolute_ebr_lba.0);
-    let sectors = l.ebr_sectors;
-    put_sectors(d, at + 22, sectors);
-    let first = l.ebr_first_chs;
-    put_chs(d, at + 26, first);
-    let last = l.ebr_last_chs;
-    put_last(d, at + 30, last);
+    put_sectors(d, at + 22, l.ebr_sectors);
+    put_chs(d, at + 26, l.ebr_first_chs);
+    put_last(d, at + 30, l.ebr_last_chs);
 }
 
 // A logical partition's slot.
@@ -84,8 +63,6 @@ pub fn put_slot(d: &mut [u8], at: usize, l: LogicalPartition)
     ensures { (d.new ≡ put d.old at (slot_part l)) × (length (slot_part l) ≡ slot_length) }
 {
     put_slot_front(d, at, l);
-    let code = l.kept.bootstrap_code;
-    base::copy_in(d, at + SLOT_CODE, &code);
-    let mark = l.kept.mark;
-    base::copy_in(d, at + SLOT_MARK, &mark);
+    base::copy_in(d, at + SLOT_CODE, &l.kept.bootstrap_code);
+    base::copy_in(d, at + SLOT_MARK, &l.kept.mark);
 }

@@ -3,23 +3,17 @@ ghost use Rattle.std.specs.Prelude.{◌≡◌, ◌<◌, length};
 ghost use Rattle.table.specs.Table.{most};
 ghost use Rattle.block.specs.Block.{slot_part, tag_of, slot_put, slot_length, block_length};
 
-use table::{LogicalPartition, MaybeChs, MaybeSectors};
+use table::LogicalPartition;
 
 // The tag of a logical partition: which of its two values are there.
 pub fn tag_of(l: LogicalPartition) -> u8
     ensures { result ≡ tag_of l }
 {
-    let sectors = l.ebr_sectors;
-    let last = l.ebr_last_chs;
-    match sectors {
-        MaybeSectors::Absent => match last {
-            MaybeChs::Absent => 0,
-            MaybeChs::Present(_) => 2,
-        },
-        MaybeSectors::Present(_) => match last {
-            MaybeChs::Absent => 1,
-            MaybeChs::Present(_) => 3,
-        },
+    match (l.ebr_sectors, l.ebr_last_chs) {
+        (None, None) => 0,
+        (Some(_), None) => 1,
+        (None, Some(_)) => 2,
+        (Some(_), Some(_)) => 3,
     }
 }
 

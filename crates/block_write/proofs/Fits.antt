@@ -1,4 +1,7 @@
 -- The numbers of a table by value fit a block's fields. Assumes nothing.
+use Rattle.record_chs.specs.declared.CHS.{CHS}
+use Rattle.std.specs.Prelude.{ℕ}
+use Rattle.std.specs.Prelude.{Option, Some, None}
 use mathlib.Core.List.{List, [], ◌∷◌}
 use native.Mathlib.Omega.{arith}
 use borrow.Author.Rules.{rules}
@@ -6,17 +9,14 @@ use mir.Val.{Val}
 use denote.Array.{each}
 use denote.Shadow.{shadow}
 use denote.Struct.Field.{Field}
+use denote.Builtin.{u32}
 use Rattle.record_entry.specs.contracts.MBRPartitionEntry.{the_field as entryField}
 use Rattle.record_mbr.specs.contracts.MBRHeader.{the_field as headerField}
-use Rattle.table.specs.contracts.MaybeSectors.{the_field as sectorsField}
-use Rattle.table.specs.contracts.MaybeChs.{the_field as lastField}
+use Rattle.std.specs.contracts.option.Option.{the_field as optionField}
+use Rattle.record_chs.specs.contracts.CHS.{the_row as chsRow}
 use Rattle.table.specs.contracts.LogicalPartition.{the_field as slotField, the_row as slotRow}
 use Rattle.record_entry.specs.declared.MBRPartitionEntry.{MBRPartitionEntry}
 use Rattle.record_mbr.specs.declared.MBRHeader.{MBRHeader}
-use Rattle.table.specs.declared.MaybeSectors.{MaybeSectors}
-use Rattle.table.specs.declared.MaybeSectors.TheVariants.{Absent, Present}
-use Rattle.table.specs.declared.MaybeChs.{MaybeChs}
-use Rattle.table.specs.declared.MaybeChs.TheVariants.{Absent as NoChs, Present as SomeChs}
 use Rattle.table.specs.declared.LogicalPartition.{LogicalPartition}
 use Rattle.record_mbr.specs.Fits.{EntryFits, HeaderFits}
 use Rattle.block.specs.Fits.{SectorsFit, LastFits, SlotFits, SlotsFit}
@@ -28,13 +28,13 @@ Known F v us = shadow (F.row.own_val (F.into v) us)
 pub entry-fits : (e : MBRPartitionEntry) (us : List Val) → Known entryField e us → EntryFits e
 entry-fits e us g = record { first = omega arith; last = omega arith; start = omega arith; sectors = omega arith }
 
-sectors-fit : (m : MaybeSectors) (us : List Val) → Known sectorsField m us → SectorsFit m
-sectors-fit Absent us g = tt
-sectors-fit (Present v) us g = omega arith
+sectors-fit : (m : Option ℕ) (us : List Val) → Known (optionField u32) m us → SectorsFit m
+sectors-fit None us g = tt
+sectors-fit (Some v) us g = omega arith
 
-last_fits : (m : MaybeChs) (us : List Val) → Known lastField m us → LastFits m
-last_fits NoChs us g = tt
-last_fits (SomeChs c) us g = omega arith
+last_fits : (m : Option CHS) (us : List Val) → Known (optionField chsRow) m us → LastFits m
+last_fits None us g = tt
+last_fits (Some c) us g = omega arith
 
 pub slot-fits : (l : LogicalPartition) (us : List Val) → Known slotField l us → SlotFits l
 slot-fits l us g = record {

@@ -12,7 +12,7 @@ ghost use Rattle.base.specs.Checks.{checked, first-fail};
 ghost use Rattle.table.specs.Table.{most};
 ghost use Rattle.block.specs.Block.{block_bytes, put_checks, block_length, table_in, Passed};
 
-use base::{Answer, Refusal};
+use base::Refusal;
 use table::{LOGICALS, MBR};
 
 // The whole block: it passes its checks, and the table in it is the one put there.
@@ -21,35 +21,22 @@ pub fn put_all(d: &mut [u8], t: MBR)
     ensures d_after { d.new ≡ block_bytes t }
     ensures passed { Passed d.new × (table_in d.new ≡ t) }
 {
-    let n = t.count as u32;
-    crate::parts_out::put_front(
-        d,
-        t.sector_size,
-        t.disk_size,
-        t.align,
-        n,
-        t.cylinders,
-        t.heads,
-        t.sectors,
-    );
-    let header = t.header;
-    crate::parts_out::put_header(d, header);
-    let ls = t.logical_partitions;
-    crate::parts_out::put_slots(d, ls);
+    parts_out::put_front(d, &t);
+    parts_out::put_header(d, t.header);
+    parts_out::put_slots(d, &t.logical_partitions);
 }
 
 // Writes the block of a table over lent bytes: 6, 101.
-pub fn put(t: MBR, out: &mut [u8]) -> Answer
+pub fn put(t: MBR, out: &mut [u8]) -> Result<(), Refusal>
     ensures result_value { refusal result ≡ first-fail (put_checks t (length out.old)) }
     ensures out_after { out.new ≡ checked (put_checks t (length out.old)) (λ _. out.old) (block_bytes t) }
 {
-    let n = t.count;
-    if LOGICALS < n {
-        return Answer::Refused(Refusal::TOO_MANY);
+    if LOGICALS < t.count {
+        return Err(Refusal::TooManyLogicals);
     }
     if out.len() != block::BLOCK {
-        return Answer::Refused(Refusal::BLOCK_LENGTH);
+        return Err(Refusal::BlockLength);
     }
     put_all(out, t);
-    Answer::Done
+    Ok(())
 }

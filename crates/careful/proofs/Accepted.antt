@@ -1,6 +1,6 @@
 -- An accepted careful push, and an accepted careful removal, is safe at every stop. Assumes nothing.
 use mathlib.Core.Path.{◌≡◌, refl, ap, sym, subst, ◌∙◌}
-use mathlib.Core.Option.{Option, none, some, get_or}
+use Rattle.std.specs.Prelude.{Option, None, Some, unwrap_or}
 use mathlib.Core.Bool.{true, false}
 use mathlib.Core.List.{List, [], ◌∷◌, ◌++◌, append_assoc}
 use Prim.Native.Nat.{ℕ, zero, suc, ◌+◌, ◌-◌, ◌*◌, ◌^◌, ◌≤◌, ◌<◌}
@@ -8,7 +8,7 @@ use native.Mathlib.Nat.{suc-add}
 use native.Mathlib.Omega.{arith}
 use lib.Dec.{ltb, leb}
 use lib.ListN.{length, take, drop, length-append, take-append-drop}
-use borrow.Author.Tests.{ltb-true, leb-true, lt-ltb, ne_eqb, not-true}
+use borrow.Author.Tests.{ltb-true, leb-true, lt-ltb, not-true}
 use Rattle.base.specs.Checks.{Check, ◌!◌, AllHold}
 use Rattle.base.specs.Said.{gives}
 use Rattle.base.specs.Row.{next}
@@ -27,7 +27,7 @@ use Rattle.sound.proofs.Good.{Good}
 use Rattle.sound.proofs.Test.{is-sound}
 use Rattle.chain.specs.Links.{write}
 use Rattle.careful_stores.specs.Space.{end_behind}
-use Rattle.careful_stores.specs.Order.{up_to, order_at, earlier, behind_at, later_one}
+use Rattle.careful_stores.specs.Order.{up_to, order_at, earlier, earlier_one, behind_at, later_one}
 use Rattle.careful.specs.Stores.{moved, first_in_place, left_out, last_logical, last_listed, last_moved, push_stores, skip_store, remove_store}
 use Rattle.careful.specs.Careful.{relist, room_needed, ask_checks, space_checks, push_refusals, push_change, remove_refusals, remove_change}
 use Rattle.careful.specs.Demand3.{Whole, contents_on, Safe}
@@ -54,13 +54,13 @@ pub first-same : (e : MBRPartitionEntry) (l : LogicalPartition) (ls : List Logic
 unfolding first_in_place
 first-same e l ls h ms = ap (λ (x : LogicalPartition). x ∷ ms) (moved_same e l h.0 h.1)
 
-heads-of : (d : Disk) (t : Contents) (e : MBRPartitionEntry) (l : LogicalPartition) (ls : List LogicalPartition) → Shows d t → extended_entry t ≡ some e → t.logicals ≡ l ∷ ls → Heads e (l ∷ ls)
+heads-of : (d : Disk) (t : Contents) (e : MBRPartitionEntry) (l : LogicalPartition) (ls : List LogicalPartition) → Shows d t → extended_entry t ≡ Some e → t.logicals ≡ l ∷ ls → Heads e (l ∷ ls)
 heads-of d t e l ls r x z =
-    let h : Holds (seen d) (some e) (l ∷ ls) = rw z at (rw x at r.holds) in
+    let h : Holds (seen d) (Some e) (l ∷ ls) = rw z at (rw x at r.holds) in
     holds-heads (seen d) e l ls h
 
 -- the parts of push's list
-module _ (q : Request) (e : MBRPartitionEntry) (n : ℕ) (h : AllHold (push_checks q (some e) n)) where
+module _ (q : Request) (e : MBRPartitionEntry) (n : ℕ) (h : AllHold (push_checks q (Some e) n)) where
   abbrev first : List Check
   first = (8 ! true) ∷ round_checks q
 
@@ -120,19 +120,19 @@ module _ (d : Disk) (t : Contents) (whole : Whole d) (small : t.size < 2 ^ 32) (
     later-true : (l : LogicalPartition) (ls : List LogicalPartition) → later_than (length (l ∷ ls)) ≡ true
     later-true l ls = lt-ltb 0 (length (l ∷ ls)) (omega arith)
 
-    into-empty : (e : MBRPartitionEntry) → extended_entry t ≡ some e → t.logicals ≡ [] → AllHold (push_checks q (some e) 0) → place_of q + size_of q ≤ end_of e → Pushed e []
+    into-empty : (e : MBRPartitionEntry) → extended_entry t ≡ Some e → t.logicals ≡ [] → AllHold (push_checks q (Some e) 0) → place_of q + size_of q ≤ end_of e → Pushed e []
     unfolding push_stores pushed first_in_place order_at
     into-empty e x z h high =
         let f : Fits q e = fits-of q e 0 h a high in
         let new : LogicalPartition = new_logical false q in
         let o : NewOk false q new = new_ok false q asked (geometry-hold q e 0 h) in
-        let safe : Safe d t (record { stores = write e (moved e new) none ∷ []; result = relist t (first_in_place e (new ∷ [])) }) =
+        let safe : Safe d t (record { stores = write e (moved e new) None ∷ []; result = relist t (first_in_place e (new ∷ [])) }) =
         push-first-safe d t e new small now r s x z (omega (arith, o.place, f.low)) (new-zone false q e new asked f o) (new-good false q e new asked f o)
         (new-writable false q e new asked f o) in
-        subst (λ (ns : List LogicalPartition). Safe d t (record { stores = write e (moved e new) none ∷ []; result = relist t (first_in_place e ns) })) (sym (moved-last 0 [] new)) safe
+        subst (λ (ns : List LogicalPartition). Safe d t (record { stores = write e (moved e new) None ∷ []; result = relist t (first_in_place e ns) })) (sym (moved-last 0 [] new)) safe
 
-    into-chain : (e : MBRPartitionEntry) (l : LogicalPartition) (ls : List LogicalPartition) → extended_entry t ≡ some e → t.logicals ≡ l ∷ ls
-        → AllHold (push_checks q (some e) (length (l ∷ ls))) → place_of q + size_of q ≤ end_of e → end (earlier (place_of q) (l ∷ ls)) ≤ place_of q
+    into-chain : (e : MBRPartitionEntry) (l : LogicalPartition) (ls : List LogicalPartition) → extended_entry t ≡ Some e → t.logicals ≡ l ∷ ls
+        → AllHold (push_checks q (Some e) (length (l ∷ ls))) → place_of q + size_of q ≤ end_of e → end (earlier (place_of q) (l ∷ ls)) ≤ place_of q
         → place_of q + size_of q ≤ bound (end_of e) (later_one (place_of q) (l ∷ ls)) → Pushed e (l ∷ ls)
     unfolding push_stores pushed order_at earlier behind_at last_listed
     into-chain e l ls x z h high low up =
@@ -147,7 +147,7 @@ module _ (d : Disk) (t : Contents) (whole : Whole d) (small : t.size < 2 ^ 32) (
         let o : NewOk true q new = new_ok true q asked g in
         let w : t.logicals ≡ init_of l xs ++ b ∷ ms = z ∙ cut_at l ls j in
         let c : Split d e t.size (init_of l xs) b ms = split d t e (init_of l xs) b ms whole r s x w in
-        let k : Good (end_of e) new none = new-good true q e new asked f o in
+        let k : Good (end_of e) new None = new-good true q e new asked f o in
         let long : length ls ≡ length xs + length ms = ap length (sym (take-append-drop j ls)) ∙ length-append xs ms in
         let m : Room e (init_of l xs) b ms new = record {
           room = omega (arith, o.place, low);
@@ -162,16 +162,16 @@ module _ (d : Disk) (t : Contents) (whole : Whole d) (small : t.size < 2 ^ 32) (
         init-joined l xs (new ∷ ms)
         ∙ sym (ap (first_in_place e) (moved-last (suc j) (l ∷ ls) new) ∙ first-same e l ls (heads-of d t e l ls r x z) (xs ++ new ∷ ms)) in
         rw (later-true l ls)
-        (subst (λ (ns : List LogicalPartition). Safe d t (record { stores = write e new (next ms none) ∷ write e b (some new) ∷ []; result = relist t ns })) same safe)
+        (subst (λ (ns : List LogicalPartition). Safe d t (record { stores = write e new (next ms None) ∷ write e b (Some new) ∷ []; result = relist t ns })) same safe)
 
     into : (o : Option MBRPartitionEntry) → extended_entry t ≡ o → (ls : List LogicalPartition) → t.logicals ≡ ls → AllHold (push_checks q o (length ls))
-        → leb (place_of q + size_of q) (area_end o) ≡ true → leb (end_behind (order_at (place_of q) ls) (earlier (place_of q) ls)) (place_of q) ≡ true
-        → leb (place_of q + size_of q) (bound (area_end o) (later_one (place_of q) ls)) ≡ true → Pushed (get_or o no_entry) ls
-    unfolding area_end push_checks order_at
-    into none x ls z h c b u = let w : ◌≡◌ {A = ℕ} 0 1 = cc h.0 in absurd (omega arith)
-    into (some e) x [] z h c b u = into-empty e x z h (leb-true (place_of q + size_of q) (end_of e) c)
-    into (some e) x (l ∷ ls) z h c b u =
-        into-chain e l ls x z h (leb-true (place_of q + size_of q) (end_of e) c) (leb-true (end (earlier (place_of q) (l ∷ ls))) (place_of q) (rw (ne_eqb (suc (up_to (place_of q) ls)) 0 (λ z. omega arith)) at b))
+        → leb (place_of q + size_of q) (area_end o) ≡ true → leb (end_behind (earlier_one (place_of q) ls)) (place_of q) ≡ true
+        → leb (place_of q + size_of q) (bound (area_end o) (later_one (place_of q) ls)) ≡ true → Pushed (unwrap_or o no_entry) ls
+    unfolding area_end push_checks earlier earlier_one order_at last_listed
+    into None x ls z h c b u = let w : ◌≡◌ {A = ℕ} 0 1 = cc h.0 in absurd (omega arith)
+    into (Some e) x [] z h c b u = into-empty e x z h (leb-true (place_of q + size_of q) (end_of e) c)
+    into (Some e) x (l ∷ ls) z h c b u =
+        into-chain e l ls x z h (leb-true (place_of q + size_of q) (end_of e) c) (leb-true (end (earlier (place_of q) (l ∷ ls))) (place_of q) b)
         (leb-true (place_of q + size_of q) (bound (end_of e) (later_one (place_of q) (l ∷ ls))) u)
 
   -- removal
@@ -182,7 +182,7 @@ module _ (d : Disk) (t : Contents) (whole : Whole d) (small : t.size < 2 ^ 32) (
   unfolding left_out
   left-suc y ms i = rw (suc-add i 1)
 
-  skip-safe : (e : MBRPartitionEntry) → extended_entry t ≡ some e → (ls : List LogicalPartition) (l : LogicalPartition) (rest : List LogicalPartition) (i : ℕ) → i < length rest
+  skip-safe : (e : MBRPartitionEntry) → extended_entry t ≡ Some e → (ls : List LogicalPartition) (l : LogicalPartition) (rest : List LogicalPartition) (i : ℕ) → i < length rest
       → t.logicals ≡ ls ++ l ∷ rest → Removed e ls (skip_store e l rest i) (l ∷ left_out rest i)
   unfolding Removed skip_store left_out
   skip-safe e x ls l [] i h q = absurd (omega arith)
@@ -196,7 +196,7 @@ module _ (d : Disk) (t : Contents) (whole : Whole d) (small : t.size < 2 ^ 32) (
       append_assoc ls (l ∷ []) (y ∷ left_out ms i) ∙ ap (λ (z : List LogicalPartition). ls ++ l ∷ z) (sym (left-suc y ms i)) in
       subst (λ (z : List LogicalPartition). Safe d t (record { stores = skip_store e y ms i ∷ []; result = relist t z })) same k
 
-  drop-safe : (e : MBRPartitionEntry) → extended_entry t ≡ some e → (ls : List LogicalPartition) (i : ℕ) → i < length ls → t.logicals ≡ ls
+  drop-safe : (e : MBRPartitionEntry) → extended_entry t ≡ Some e → (ls : List LogicalPartition) (i : ℕ) → i < length ls → t.logicals ≡ ls
       → Safe d t (record { stores = remove_store e ls i ∷ []; result = relist t (first_in_place e (left_out ls i)) })
   unfolding remove_store left_out first_in_place Removed
   drop-safe e x [] i h q = absurd (omega arith)
@@ -209,10 +209,10 @@ module _ (d : Disk) (t : Contents) (whole : Whole d) (small : t.size < 2 ^ 32) (
       subst (λ (z : List LogicalPartition). Safe d t (record { stores = skip_store e l ls i ∷ []; result = relist t z })) same (skip-safe e x [] l ls i (omega arith) q)
 
   out_of : (o : Option MBRPartitionEntry) → extended_entry t ≡ o → (ls : List LogicalPartition) → t.logicals ≡ ls → (i : ℕ) → i < length ls
-      → Safe d t (record { stores = remove_store (get_or o no_entry) ls i ∷ []; result = relist t (first_in_place (get_or o no_entry) (left_out ls i)) })
-  out_of none x [] z i h = absurd (omega arith)
-  out_of none x (l ∷ ls) z i h = absurd (rw z at (rw x at r.holds))
-  out_of (some e) x ls z i h = drop-safe e x ls i h z
+      → Safe d t (record { stores = remove_store (unwrap_or o no_entry) ls i ∷ []; result = relist t (first_in_place (unwrap_or o no_entry) (left_out ls i)) })
+  out_of None x [] z i h = absurd (omega arith)
+  out_of None x (l ∷ ls) z i h = absurd (rw z at (rw x at r.holds))
+  out_of (Some e) x ls z i h = drop-safe e x ls i h z
 
 -- the two changes
 module _ (d : Disk) (t : Contents) (whole : Whole d) (small : t.size < 2 ^ 32) (now : contents_on d ≡ gives t) where

@@ -1,6 +1,6 @@
 -- Where an extended entry starts above 0, reading finds an alignment. Assumes nothing.
 use mathlib.Core.Path.{◌≡◌, refl, ap}
-use mathlib.Core.Option.{Option, some}
+use Rattle.std.specs.Prelude.{Option, Some}
 use mathlib.Core.Bool.{Bool, true, false}
 use mathlib.Core.List.{List, [], ◌∷◌, ◌++◌}
 use Prim.Native.Nat.{ℕ, zero, suc, ◌%◌, ◌≤◌, min, max}
@@ -29,14 +29,14 @@ one-divides (s ∷ ss) =
 
 pub record Found (o : Option ℕ) : Type 0 where
   pub value : ℕ
-  pub is : o ≡ some value
+  pub is : o ≡ Some value
 
 divisor-found : (n : ℕ) (ss : List ℕ) → Found (divisor_to (suc n) ss)
 unfolding divisor_to
 divisor-found zero ss = rw (one-divides ss) (record { value = 1; is = refl })
 divisor-found (suc n) ss = go (divides_all (suc (suc n)) ss) (divisor-found n ss)
   where
-    go : (b : Bool) → Found (divisor_to (suc n) ss) → Found (pick b (some (suc (suc n))) (divisor_to (suc n) ss))
+    go : (b : Bool) → Found (divisor_to (suc n) ss) → Found (pick b (Some (suc (suc n))) (divisor_to (suc n) ss))
     go true ih = record { value = suc (suc n); is = refl }
     go false ih = ih
 
@@ -53,7 +53,7 @@ aligned-of (s ∷ ss) h =
     record { align = f.value; found = ap or_seven f.is }
 
 -- the extended entry's start is a used one
-large-starts : (e : MBRPartitionEntry) (ps qs : List MBRPartitionEntry) → extended_of ps ≡ some e → e.starting_lba ≤ largest_start (used_starts (ps ++ qs))
+large-starts : (e : MBRPartitionEntry) (ps qs : List MBRPartitionEntry) → extended_of ps ≡ Some e → e.starting_lba ≤ largest_start (used_starts (ps ++ qs))
 unfolding extended_of largest_start used_starts
 large-starts e [] qs h = let w : ◌≡◌ {A = ℕ} 0 1 = cc in absurd (omega arith)
 large-starts e (p ∷ ps) qs h = go (large-starts e ps qs) (extended p.sys) refl h
@@ -63,7 +63,7 @@ large-starts e (p ∷ ps) qs h = go (large-starts e ps qs) (extended p.sys) refl
     other z true = omega arith
     other z false = z
 
-    go : (extended_of ps ≡ some e → e.starting_lba ≤ largest_start (used_starts (ps ++ qs))) → (x : Bool) → extended p.sys ≡ x → pick x (some p) (extended_of ps) ≡ some e
+    go : (extended_of ps ≡ Some e → e.starting_lba ≤ largest_start (used_starts (ps ++ qs))) → (x : Bool) → extended p.sys ≡ x → pick x (Some p) (extended_of ps) ≡ Some e
         → e.starting_lba ≤ largest_start (pick (used p.sys) (p.starting_lba ∷ used_starts (ps ++ qs)) (used_starts (ps ++ qs)))
     go ih true q c =
         let pe : p ≡ e = cc in
@@ -71,5 +71,5 @@ large-starts e (p ∷ ps) qs h = go (large-starts e ps qs) (extended p.sys) refl
         rw (extended-used p.sys q) (omega arith)
     go ih false q c = other (ih c) (used p.sys)
 
-pub aligned : (e : MBRPartitionEntry) (ps qs : List MBRPartitionEntry) → extended_of ps ≡ some e → 1 ≤ e.starting_lba → Aligned (used_starts (ps ++ qs))
+pub aligned : (e : MBRPartitionEntry) (ps qs : List MBRPartitionEntry) → extended_of ps ≡ Some e → 1 ≤ e.starting_lba → Aligned (used_starts (ps ++ qs))
 aligned e ps qs x h = aligned-of (used_starts (ps ++ qs)) (omega (arith, large-starts e ps qs x))

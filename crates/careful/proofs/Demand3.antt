@@ -1,6 +1,6 @@
 -- Demand 3 holds of every call that says and leaves what a careful change says. Assumes nothing.
 use mathlib.Core.Path.{◌≡◌, refl, sym, ap, subst, ◌∙◌}
-use mathlib.Core.Option.{none, some}
+use Rattle.std.specs.Prelude.{None, Some}
 use mathlib.Core.Bool.{false}
 use mathlib.Core.List.{List, [], ◌∷◌, ◌++◌}
 use Prim.Native.Nat.{ℕ, ◌+◌, ◌*◌, ◌^◌, ◌<◌}
@@ -40,12 +40,12 @@ use Rattle.careful.proofs.Crate.{push-own, push-same, remove-own, remove-same}
 use Rattle.careful.proofs.Output.{stores_back}
 
 -- the first check that fails is answered
-skip-holding : (before behind : List Check) (c : Check) → AllHold before → c.holds ≡ false → first-fail (before ++ c ∷ behind) ≡ some c.number
+skip-holding : (before behind : List Check) (c : Check) → AllHold before → c.holds ≡ false → first-fail (before ++ c ∷ behind) ≡ Some c.number
 skip-holding [] behind c h f = rw f
 skip-holding (b ∷ bs) behind c h f = rw h.0 (skip-holding bs behind c h.1 f)
 
-first-fails : (cs : List Check) (k : ℕ) → FirstFail cs k → first-fail cs ≡ some k
-first-fails cs k f = ap first-fail f.parts ∙ skip-holding f.before f.behind f.check f.holding f.fails ∙ ap some f.number
+first-fails : (cs : List Check) (k : ℕ) → FirstFail cs k → first-fail cs ≡ Some k
+first-fails cs k f = ap first-fail f.parts ∙ skip-holding f.before f.behind f.check f.holding f.fails ∙ ap Some f.number
 
 -- the disk of a good extract is whole
 pub whole_of : (x : List ℕ) → Good x → Whole (disk_of x)
@@ -62,7 +62,7 @@ unfolding read_says
 good-read x b t h = read-good x b t (check_says x) refl h
 
 -- the disk from which an extract was collected reads as the extract does
-pub collected-contents : (d : Disk) (x z : List ℕ) (n : ℕ) → Good x → From d x → Collected d x n z → first_absent z (looked (disk_of z)) ≡ none → Bytes z
+pub collected-contents : (d : Disk) (x z : List ℕ) (n : ℕ) → Good x → From d x → Collected d x n z → first_absent z (looked (disk_of z)) ≡ None → Bytes z
     → (t : Table) → read_says z ≡ gives t → contents_on d ≡ gives (contents t)
 collected-contents d x z n g f c h b t r = read→contents d t (sym (collected-reads d x z n g f c h) ∙ (good-read z b t r).1)
 

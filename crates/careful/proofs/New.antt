@@ -1,7 +1,7 @@
 -- What is known of a pushed partition once no refusal applies. Assumes nothing.
 use mathlib.Core.Path.{◌≡◌, refl, ap, sym, subst, ◌∙◌}
 use mathlib.Core.Logic.{inl}
-use mathlib.Core.Option.{none}
+use Rattle.std.specs.Prelude.{None, Option, Some}
 use mathlib.Core.Bool.{Bool, true, false, ◌&&◌}
 use mathlib.Core.List.{List, [], ◌++◌}
 use Prim.Native.Nat.{ℕ, ◌+◌, ◌-◌, ◌*◌, ◌/◌, ◌≤◌, ◌<◌}
@@ -18,9 +18,6 @@ use Rattle.record_entry.specs.declared.MBRPartitionEntry.{MBRPartitionEntry}
 use Rattle.record_entry.specs.Entry.{used, extended, end_of}
 use Rattle.record_ebr.specs.Ebr.{no_kept, KeptOk}
 use Rattle.record_ebr.proofs.Laws.{no-kept-ok}
-use Rattle.table.specs.declared.MaybeSectors.TheVariants.{Absent, Present}
-use Rattle.table.specs.declared.MaybeChs.{MaybeChs}
-use Rattle.table.specs.declared.MaybeChs.TheVariants.{Absent as NoChs, Present as SomeChs}
 use Rattle.table.specs.declared.LogicalPartition.{LogicalPartition}
 use Rattle.chain.specs.Facts.{at, start}
 use Rattle.table_address.specs.declared.Geometry.{Geometry}
@@ -54,9 +51,9 @@ address-ok g a heads c h =
     }
 
 -- the last link CHS: there for a later one only
-abbrev pub TailOk : Bool → MaybeChs → Type 0
-TailOk true m = (c : CHS) × (m ≡ SomeChs c) × ChsOk c
-TailOk false m = m ≡ NoChs
+abbrev pub TailOk : Bool → Option CHS → Type 0
+TailOk true m = (c : CHS) × (m ≡ Some c) × ChsOk c
+TailOk false m = m ≡ None
 
 pub record NewOk (later : Bool) (q : Request) (l : LogicalPartition) : Type 0 where
   pub place : at l ≡ place_of q
@@ -65,13 +62,13 @@ pub record NewOk (later : Bool) (q : Request) (l : LogicalPartition) : Type 0 wh
   pub boot : l.partition.boot ≡ 0
   pub sys : l.partition.sys ≡ q.sys
   pub kept : l.kept ≡ no_kept
-  pub span : l.ebr_sectors ≡ pick later (Present (size_of q)) Absent
+  pub span : l.ebr_sectors ≡ pick later (Some (size_of q)) None
   pub first : ChsOk l.partition.first_chs
   pub last : ChsOk l.partition.last_chs
   pub link : ChsOk l.ebr_first_chs
   pub tail : TailOk later l.ebr_last_chs
 
-tail-fresh : (later : Bool) → TailOk later (pick later (SomeChs no_chs) NoChs)
+tail-fresh : (later : Bool) → TailOk later (pick later (Some no_chs) None)
 tail-fresh true = (no_chs, refl, omega arith)
 tail-fresh false = refl
 
@@ -91,8 +88,8 @@ unaddressed later q = record {
   tail = tail-fresh later;
 }
 
-tail_at : (later : Bool) (g : Geometry) (a n : ℕ) → g.heads < 256 → complete g ≡ true → AllHold (link_checks g a (pick later (Present n) Absent))
-    → TailOk later (link_address g a (pick later (Present n) Absent))
+tail_at : (later : Bool) (g : Geometry) (a n : ℕ) → g.heads < 256 → complete g ≡ true → AllHold (link_checks g a (pick later (Some n) None))
+    → TailOk later (link_address g a (pick later (Some n) None))
 tail_at true g a n heads c h = (address_in g (a + n - 1), refl, address-ok g (a + n - 1) heads c h.1.1)
 tail_at false g a n heads c h = refl
 
@@ -106,7 +103,7 @@ with-address later q heads c h =
     let A : List Check = address_checks g s in
     let B : List Check = last_checks g s n in
     let C : List Check = address_checks g (place_of q) in
-    let L : List Check = link_checks g (place_of q) (pick later (Present (size_of q)) Absent) in
+    let L : List Check = link_checks g (place_of q) (pick later (Some (size_of q)) None) in
     let abc : AllHold (A ++ B ++ C) = hold-left (A ++ B ++ C) L h in
     let ab : AllHold (A ++ B) = hold-left (A ++ B) C abc in
     record {
@@ -144,7 +141,7 @@ pub record Fits (q : Request) (e : MBRPartitionEntry) : Type 0 where
 within : (c : CHS) → ChsOk c → Within c
 within c k = omega arith
 
-if-there : (later : Bool) (m : MaybeChs) → TailOk later m → IfThere m
+if-there : (later : Bool) (m : Option CHS) → TailOk later m → IfThere m
 if-there true m t = subst IfThere (sym t.1) (within t.0 t.2)
 if-there false m t = subst IfThere (sym t) tt
 
@@ -162,7 +159,7 @@ module _ (later : Bool) (q : Request) (e : MBRPartitionEntry) (l : LogicalPartit
   pub end-new : end l ≡ place_of q + size_of q
   end-new = omega (arith, zone-end l new-zone, o.start, o.sectors, f.size, f.align)
 
-  pub new-good : Good (end_of e) l none
+  pub new-good : Good (end_of e) l None
   new-good = record {
     own = record {
       flag = inl o.boot;

@@ -1,6 +1,6 @@
 -- Where logical partitions lie: each after its EBR, and before the next EBR or the end of the extended partition. Assumes nothing.
 use mathlib.Core.Logic.{◌≢◌, inl, inr}
-use mathlib.Core.Option.{Option, none, some}
+use Rattle.std.specs.Prelude.{Option, None, Some}
 use mathlib.Core.List.{List, [], ◌∷◌, ◌++◌}
 use Prim.Native.Nat.{ℕ, suc, ◌≤◌, ◌<◌}
 use native.Mathlib.Omega.{arith}
@@ -47,8 +47,8 @@ pub fit_of : (hi : ℕ) (ls : List LogicalPartition) (n : Option LogicalPartitio
 fit_of hi = row-map (Good hi) (Fit hi) (λ l n g. good-fit hi l n g)
 
 pub before-fit : (hi : ℕ) (l : LogicalPartition) (n : Option LogicalPartition) → Fit hi l n → Before l n
-before-fit hi l none f = tt
-before-fit hi l (some m) f = omega (arith, f.above, f.ends)
+before-fit hi l None f = tt
+before-fit hi l (Some m) f = omega (arith, f.above, f.ends)
 
 abbrev pub Clear : ℕ → LogicalPartition → Option LogicalPartition → Type 0
 Clear a l n = ¬ (In a l.partition)

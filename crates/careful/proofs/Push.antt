@@ -1,7 +1,7 @@
 -- Careful push behind an EBR of the chain: the new EBR first, then the one before it with a link to it. Assumes nothing.
 use mathlib.Core.Path.{◌≡◌, ap, subst, ◌∙◌}
 use mathlib.Core.Logic.{◌⊎◌, inl, inr}
-use mathlib.Core.Option.{Option, none, some}
+use Rattle.std.specs.Prelude.{Option, None, Some}
 use mathlib.Core.List.{List, [], ◌∷◌, ◌++◌}
 use Prim.Native.Nat.{ℕ, ◌^◌, ◌≤◌, ◌<◌}
 use native.Mathlib.Omega.{arith}
@@ -17,7 +17,6 @@ use Rattle.record_entry.specs.Entry.{end_of}
 use Rattle.record_ebr.specs.Ebr.{KeptOk}
 use Rattle.extract.specs.Disk.{Disk, Store, stored}
 use Rattle.extract.proofs.Disk.{sector-other, size-stored, width-stored}
-use Rattle.table.specs.declared.MaybeChs.TheVariants.{Present as SomeChs}
 use Rattle.table.specs.declared.LogicalPartition.{LogicalPartition}
 use Rattle.table.specs.Table.{most}
 use Rattle.chain.specs.Facts.{seen, at, link_in, body_of, leads, Held}
@@ -63,11 +62,11 @@ body_ok hi l n g w h =
 -- and a link to it
 pub record Linkable (l : LogicalPartition) : Type 0 where
   pub tail : CHS
-  pub last : l.ebr_last_chs ≡ SomeChs tail
+  pub last : l.ebr_last_chs ≡ Some tail
   pub first-ok : ChsOk l.ebr_first_chs
   pub last_ok : ChsOk tail
 
-pub leads-ok : (X hi : ℕ) (m : LogicalPartition) → Span hi m → Linkable m → X < at m → hi < 2 ^ 32 → NextOk (leads X (some m))
+pub leads-ok : (X hi : ℕ) (m : LogicalPartition) → Span hi m → Linkable m → X < at m → hi < 2 ^ 32 → NextOk (leads X (Some m))
 unfolding link_in
 leads-ok X hi m k o h s = record {
   span = k.span;
@@ -84,14 +83,14 @@ leads-ok X hi m k o h s = record {
 -- the new partition `new` fits behind `l` and before `ms`
 pub record Room (e : MBRPartitionEntry) (ls : List LogicalPartition) (l : LogicalPartition) (ms : List LogicalPartition) (new : LogicalPartition) : Type 0 where
   pub room : end l ≤ at new
-  pub good : Good (end_of e) new (next ms none)
+  pub good : Good (end_of e) new (next ms None)
   pub link : Span (end_of e) new
   pub writable : Writable new
   pub linkable : Linkable new
   pub few : length (ls ++ l ∷ new ∷ ms) ≤ most
 
 module _ (d : Disk) (t : Contents) (e : MBRPartitionEntry) (ls : List LogicalPartition) (l : LogicalPartition) (ms : List LogicalPartition) (new : LogicalPartition)
-    (small : t.size < 2 ^ 32) (now : contents_on d ≡ gives t) (r : Shows d t) (s : Sound t) (x : extended_entry t ≡ some e)
+    (small : t.size < 2 ^ 32) (now : contents_on d ≡ gives t) (r : Shows d t) (s : Sound t) (x : extended_entry t ≡ Some e)
     (c : Split d e t.size ls l ms) (q : t.logicals ≡ ls ++ l ∷ ms) (k : Room e ls l ms new) where
   abbrev X : ℕ
   X = e.starting_lba
@@ -100,10 +99,10 @@ module _ (d : Disk) (t : Contents) (e : MBRPartitionEntry) (ls : List LogicalPar
   hi = end_of e
 
   abbrev one : Store
-  one = write e new (next ms none)
+  one = write e new (next ms None)
 
   abbrev two : Store
-  two = write e l (some new)
+  two = write e l (Some new)
 
   abbrev d₁ : Disk
   d₁ = stored d one
@@ -111,16 +110,16 @@ module _ (d : Disk) (t : Contents) (e : MBRPartitionEntry) (ls : List LogicalPar
   abbrev d₂ : Disk
   d₂ = stored d₁ two
 
-  fit-new : Fit hi new (next ms none)
-  fit-new = good-fit hi new (next ms none) k.good
+  fit-new : Fit hi new (next ms None)
+  fit-new = good-fit hi new (next ms None) k.good
 
   end-new : end new ≤ hi
   end-new = omega (arith, k.link.covers, k.link.ends)
 
   body_new : BodyOk (body_of new)
-  body_new = body_ok hi new (next ms none) k.good k.writable (omega (arith, end-new, c.area.ends))
+  body_new = body_ok hi new (next ms None) k.good k.writable (omega (arith, end-new, c.area.ends))
 
-  leads-new : NextOk (leads X (some new))
+  leads-new : NextOk (leads X (Some new))
   leads-new = leads-ok X hi new k.link k.linkable (omega (arith, c.low, k.room, c.fit.above)) (omega (arith, c.area.ends))
 
   inside-new : at new < d.size
@@ -129,43 +128,43 @@ module _ (d : Disk) (t : Contents) (e : MBRPartitionEntry) (ls : List LogicalPar
   inside-l : at l < d.size
   inside-l = omega (arith, inside-new, k.room, c.fit.above)
 
-  put₁ : Put (seen d) (at new) (image X new (next ms none)) (seen d₁)
-  put₁ = write-put d e new (next ms none) inside-new c.sys body_new c.leads_ok
+  put₁ : Put (seen d) (at new) (image X new (next ms None)) (seen d₁)
+  put₁ = write-put d e new (next ms None) inside-new c.sys body_new c.leads_ok
 
-  put₂ : Put (seen d₁) (at l) (image X l (some new)) (seen d₂)
-  put₂ = write-put d₁ e l (some new) (rw (size-stored d one) inside-l) c.sys c.body leads-new
+  put₂ : Put (seen d₁) (at l) (image X l (Some new)) (seen d₂)
+  put₂ = write-put d₁ e l (Some new) (rw (size-stored d one) inside-l) c.sys c.body leads-new
 
-  fits-ls : Row (Fit hi) ls (some l)
-  fits-ls = fit_of hi ls (some l) c.goods
+  fits-ls : Row (Fit hi) ls (Some l)
+  fits-ls = fit_of hi ls (Some l) c.goods
 
-  off-ms : (ns : List LogicalPartition) → Fit hi new (next ns none) → Row (Fit hi) ns none → Row (Off (at new)) ns none
+  off-ms : (ns : List LogicalPartition) → Fit hi new (next ns None) → Row (Fit hi) ns None → Row (Off (at new)) ns None
   off-ms [] f g = tt
-  off-ms (m ∷ ns) f g = off-over hi (at new) m ns none g (omega (arith, f.above, f.ends))
+  off-ms (m ∷ ns) f g = off-over hi (at new) m ns None g (omega (arith, f.above, f.ends))
 
-  off-new : Row (Off (at new)) (ls ++ l ∷ ms) none
+  off-new : Row (Off (at new)) (ls ++ l ∷ ms) None
   off-new =
-      row-join (Off (at new)) ls (l ∷ ms) none
-      (off-under hi (at new) ls (some l) fits-ls (omega (arith, k.room, c.fit.above)))
-      (omega (arith, k.room, c.fit.above), off-ms ms fit-new (fit_of hi ms none c.rest))
+      row-join (Off (at new)) ls (l ∷ ms) None
+      (off-under hi (at new) ls (Some l) fits-ls (omega (arith, k.room, c.fit.above)))
+      (omega (arith, k.room, c.fit.above), off-ms ms fit-new (fit_of hi ms None c.rest))
 
-  held₁ : Row (Held (seen d₁) X) (ls ++ l ∷ ms) none
-  held₁ = held-off X (seen d) (seen d₁) (at new) _ put₁ (ls ++ l ∷ ms) none off-new (row-join (Held (seen d) X) ls (l ∷ ms) none c.held (c.here, c.tail))
+  held₁ : Row (Held (seen d₁) X) (ls ++ l ∷ ms) None
+  held₁ = held-off X (seen d) (seen d₁) (at new) _ put₁ (ls ++ l ∷ ms) None off-new (row-join (Held (seen d) X) ls (l ∷ ms) None c.held (c.here, c.tail))
 
-  good₁ : Row (Good hi) (ls ++ l ∷ ms) none
-  good₁ = row-join (Good hi) ls (l ∷ ms) none c.goods (c.good, c.rest)
+  good₁ : Row (Good hi) (ls ++ l ∷ ms) None
+  good₁ = row-join (Good hi) ls (l ∷ ms) None c.goods (c.good, c.rest)
 
-  good₂ : Row (Good hi) (ls ++ l ∷ new ∷ ms) none
+  good₂ : Row (Good hi) (ls ++ l ∷ new ∷ ms) None
   good₂ =
-      row-join (Good hi) ls (l ∷ new ∷ ms) none c.goods
+      row-join (Good hi) ls (l ∷ new ∷ ms) None c.goods
       (record { own = c.good.own; place = c.good.place; ends = k.room; linked = k.link }, (k.good, c.rest))
 
-  fits₂ : Row (Fit hi) (l ∷ new ∷ ms) none
-  fits₂ = fit_of hi (l ∷ new ∷ ms) none (row-right (Good hi) ls (l ∷ new ∷ ms) none good₂)
+  fits₂ : Row (Fit hi) (l ∷ new ∷ ms) None
+  fits₂ = fit_of hi (l ∷ new ∷ ms) None (row-right (Good hi) ls (l ∷ new ∷ ms) None good₂)
 
-  held₂ : Row (Held (seen d₂) X) (ls ++ l ∷ new ∷ ms) none
+  held₂ : Row (Held (seen d₂) X) (ls ++ l ∷ new ∷ ms) None
   held₂ =
-      relink X hi ls l (new ∷ ms) (seen d₁) (seen d₂) put₂ fits-ls fits₂ (row-left (Held (seen d₁) X) ls (l ∷ ms) none held₁)
-      (put₁.same, (row-right (Held (seen d₁) X) ls (l ∷ ms) none held₁).1)
+      relink X hi ls l (new ∷ ms) (seen d₁) (seen d₂) put₂ fits-ls fits₂ (row-left (Held (seen d₁) X) ls (l ∷ ms) None held₁)
+      (put₁.same, (row-right (Held (seen d₁) X) ls (l ∷ ms) None held₁).1)
 
   heads₂ : Heads e (ls ++ l ∷ new ∷ ms)
   heads₂ = heads-swap e ls l ms (new ∷ ms) c.first
@@ -186,29 +185,29 @@ module _ (d : Disk) (t : Contents) (e : MBRPartitionEntry) (ls : List LogicalPar
       rebuilt d d₂ t e r s small x (width-stored d₁ two ∙ width-stored d one) (size-stored d₁ two ∙ size-stored d one) zeroth₂ (ls ++ l ∷ new ∷ ms) heads₂ good₂ held₂ k.few
 
   -- no store on data
-  clear-new : Row (Clear (at new)) (ls ++ l ∷ new ∷ ms) none
+  clear-new : Row (Clear (at new)) (ls ++ l ∷ new ∷ ms) None
   clear-new =
-      row-join (Clear (at new)) ls (l ∷ new ∷ ms) none
-      (clear-under hi (at new) ls (some l) fits-ls (omega (arith, k.room, c.fit.above)))
-      ((λ h. omega (arith, h.high, c.fit.cover, k.room)), clear-over hi (at new) new ms none fits₂.1 (omega arith))
+      row-join (Clear (at new)) ls (l ∷ new ∷ ms) None
+      (clear-under hi (at new) ls (Some l) fits-ls (omega (arith, k.room, c.fit.above)))
+      ((λ h. omega (arith, h.high, c.fit.cover, k.room)), clear-over hi (at new) new ms None fits₂.1 (omega arith))
 
-  clear-l : Row (Clear (at l)) (ls ++ l ∷ new ∷ ms) none
+  clear-l : Row (Clear (at l)) (ls ++ l ∷ new ∷ ms) None
   clear-l =
-      row-join (Clear (at l)) ls (l ∷ new ∷ ms) none (clear-under hi (at l) ls (some l) fits-ls (omega arith))
-      (clear-over hi (at l) l (new ∷ ms) none fits₂ (omega arith))
+      row-join (Clear (at l)) ls (l ∷ new ∷ ms) None (clear-under hi (at l) ls (Some l) fits-ls (omega arith))
+      (clear-over hi (at l) l (new ∷ ms) None fits₂ (omega arith))
 
-  clear-pair : (a : ℕ) → X ≤ a → a < hi → Row (Clear a) (ls ++ l ∷ new ∷ ms) none → ClearOf a t × ClearOf a (relist t (ls ++ l ∷ new ∷ ms))
+  clear-pair : (a : ℕ) → X ≤ a → a < hi → Row (Clear a) (ls ++ l ∷ new ∷ ms) None → ClearOf a t × ClearOf a (relist t (ls ++ l ∷ new ∷ ms))
   clear-pair a lo up h =
       let i : In a e = record { low = lo; high = up } in
-      let all : All (λ y. ¬ (In a y.partition)) (ls ++ l ∷ new ∷ ms) = all_of a (ls ++ l ∷ new ∷ ms) none h in
+      let all : All (λ y. ¬ (In a y.partition)) (ls ++ l ∷ new ∷ ms) = all_of a (ls ++ l ∷ new ∷ ms) None h in
       let old : ClearOf a (relist t (ls ++ l ∷ ms)) = clear_of t e a s x i (ls ++ l ∷ ms) (all-skip (λ y. ¬ (In a y.partition)) ls l new ms all) in
       (subst (ClearOf a) (relist-same t (ls ++ l ∷ ms) q) old, clear_of t e a s x i (ls ++ l ∷ new ∷ ms) all)
 
-  pub push-safe : Safe d t (record { stores = write e new (next ms none) ∷ write e l (some new) ∷ []; result = relist t (ls ++ l ∷ new ∷ ms) })
+  pub push-safe : Safe d t (record { stores = write e new (next ms None) ∷ write e l (Some new) ∷ []; result = relist t (ls ++ l ∷ new ∷ ms) })
   unfolding write
   push-safe =
       safe-two d one two t (relist t (ls ++ l ∷ new ∷ ms)) now reads₁ reads₂
       (clear-pair (at new) (omega (arith, c.low, k.room, c.fit.above)) (omega (arith, fit-new.above, end-new)) clear-new)
       (clear-pair (at l) c.low (omega (arith, k.room, c.fit.above, fit-new.above, end-new)) clear-l)
       (relist-sound t e s x (ls ++ l ∷ new ∷ ms) (heads-first e (ls ++ l ∷ new ∷ ms) heads₂) good₂)
-      (write-record e new (next ms none) c.sys body_new c.leads_ok) (write-record e l (some new) c.sys c.body leads-new) inside-new inside-l
+      (write-record e new (next ms None) c.sys body_new c.leads_ok) (write-record e l (Some new) c.sys c.body leads-new) inside-new inside-l

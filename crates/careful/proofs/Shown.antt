@@ -1,7 +1,7 @@
 -- A disk that keeps its MBR and holds a sound chain reads as the table with that chain; safe changes of one and of two stores. Assumes nothing.
 use mathlib.Core.Path.{◌≡◌, refl, sym, subst, ◌∙◌}
 use mathlib.Core.Logic.{◌⊎◌, inl, inr}
-use mathlib.Core.Option.{none, some}
+use Rattle.std.specs.Prelude.{None, Some}
 use mathlib.Core.Bool.{false}
 use mathlib.Core.List.{List, [], ◌∷◌, ◌++◌}
 use Prim.Native.Nat.{ℕ, zero, suc, ◌^◌, ◌≤◌, ◌<◌}
@@ -79,37 +79,37 @@ heads-swap e [] l ms ns h = h
 heads-swap e (x ∷ xs) l ms ns h = h
 
 -- what reading a table gives of its chain
-pub holds-held : (v : ℕ → View) (e : MBRPartitionEntry) (ls : List LogicalPartition) → Holds v (some e) ls → Row (Held v e.starting_lba) ls none
+pub holds-held : (v : ℕ → View) (e : MBRPartitionEntry) (ls : List LogicalPartition) → Holds v (Some e) ls → Row (Held v e.starting_lba) ls None
 holds-held v e [] h = tt
 holds-held v e (l ∷ ls) h = h.held
 
-pub holds-heads : (v : ℕ → View) (e : MBRPartitionEntry) (l : LogicalPartition) (ls : List LogicalPartition) → Holds v (some e) (l ∷ ls) → Heads e (l ∷ ls)
+pub holds-heads : (v : ℕ → View) (e : MBRPartitionEntry) (l : LogicalPartition) (ls : List LogicalPartition) → Holds v (Some e) (l ∷ ls) → Heads e (l ∷ ls)
 holds-heads v e l ls h = (h.begins.0 ∙ add-zero e.starting_lba, h.begins.1)
 
-pub holds-heads-at : (v : ℕ → View) (e : MBRPartitionEntry) (ls : List LogicalPartition) (l : LogicalPartition) (ms : List LogicalPartition) → Holds v (some e) (ls ++ l ∷ ms)
+pub holds-heads-at : (v : ℕ → View) (e : MBRPartitionEntry) (ls : List LogicalPartition) (l : LogicalPartition) (ms : List LogicalPartition) → Holds v (Some e) (ls ++ l ∷ ms)
     → Heads e (ls ++ l ∷ ms)
 holds-heads-at v e [] l ms h = holds-heads v e l ms h
 holds-heads-at v e (x ∷ xs) l ms h = holds-heads v e x (xs ++ l ∷ ms) h
 
-pub plain_of : (X hi : ℕ) (l : LogicalPartition) (ls : List LogicalPartition) → at l ≡ X → hi < 2 ^ 32 → Row (Fit hi) (l ∷ ls) none → Row (Plain X) (l ∷ ls) none
+pub plain_of : (X hi : ℕ) (l : LogicalPartition) (ls : List LogicalPartition) → at l ≡ X → hi < 2 ^ 32 → Row (Fit hi) (l ∷ ls) None → Row (Plain X) (l ∷ ls) None
 plain_of X hi l ls e h f =
     row-zip (λ x n. Fit hi x n × Over X x n) (Under hi) (Plain X)
     (λ x n p q. record { inside = p.1; after = p.0.start; fits = omega (arith, p.0.cover); before = before-fit hi x n p.0 })
-    (l ∷ ls) none
-    (row-zip (Fit hi) (Over X) (λ x n. Fit hi x n × Over X x n) (λ x n p q. (p, q)) (l ∷ ls) none f (row-over hi X l ls none f (omega arith)))
-    (row_under hi hi (l ∷ ls) none f (omega arith))
+    (l ∷ ls) None
+    (row-zip (Fit hi) (Over X) (λ x n. Fit hi x n × Over X x n) (λ x n p q. (p, q)) (l ∷ ls) None f (row-over hi X l ls None f (omega arith)))
+    (row_under hi hi (l ∷ ls) None f (omega arith))
 
 -- the disk `d'` keeps sector 0 of `d`, which reads as the sound table `t` with the extended entry `e`
-module _ (d d' : Disk) (t : Contents) (e : MBRPartitionEntry) (r : Shows d t) (s : Sound t) (small : t.size < 2 ^ 32) (x : extended_entry t ≡ some e)
+module _ (d d' : Disk) (t : Contents) (e : MBRPartitionEntry) (r : Shows d t) (s : Sound t) (small : t.size < 2 ^ 32) (x : extended_entry t ≡ Some e)
     (width : d'.width ≡ d.width) (size : d'.size ≡ d.size) (zeroth : d'.sector 0 ≡ d.sector 0) where
-  shown : (ls : List LogicalPartition) → Holds (seen d') (some e) ls → contents_on d' ≡ gives (relist t ls)
+  shown : (ls : List LogicalPartition) → Holds (seen d') (Some e) ls → contents_on d' ≡ gives (relist t ls)
   unfolding relist
   shown ls h =
       shows→contents d' (relist t ls)
       (record { width = width ∙ r.width; size = size ∙ r.size; header = header-same d' d size zeroth ∙ r.header; holds = rw x h })
       (aligned e (primaries_of t) (parts ls) x (area_of t e s x).start)
 
-  pub rebuilt : (ls : List LogicalPartition) → Heads e ls → Row (Good (end_of e)) ls none → Row (Held (seen d') e.starting_lba) ls none → length ls ≤ most
+  pub rebuilt : (ls : List LogicalPartition) → Heads e ls → Row (Good (end_of e)) ls None → Row (Held (seen d') e.starting_lba) ls None → length ls ≤ most
       → contents_on d' ≡ gives (relist t ls)
   rebuilt [] f g h n = absurd f
   rebuilt (l ∷ ls) f g h n =
@@ -117,15 +117,15 @@ module _ (d d' : Disk) (t : Contents) (e : MBRPartitionEntry) (r : Shows d t) (s
       (record {
         begins = (f.0 ∙ sym (add-zero e.starting_lba), f.1);
         held = h;
-        plain = plain_of e.starting_lba (end_of e) l ls f.0 (omega (arith, (area_of t e s x).ends)) (fit_of (end_of e) (l ∷ ls) none g);
+        plain = plain_of e.starting_lba (end_of e) l ls f.0 (omega (arith, (area_of t e s x).ends)) (fit_of (end_of e) (l ∷ ls) None g);
         few = n;
       })
 
   pub rebuilt-empty : Empty (seen d' e.starting_lba) → contents_on d' ≡ gives (relist t [])
   rebuilt-empty h = shown [] h
 
-pub relist-sound : (t : Contents) (e : MBRPartitionEntry) → Sound t → extended_entry t ≡ some e → (ls : List LogicalPartition) → FirstAt e.starting_lba ls
-    → Row (Good (end_of e)) ls none → Sound (relist t ls)
+pub relist-sound : (t : Contents) (e : MBRPartitionEntry) → Sound t → extended_entry t ≡ Some e → (ls : List LogicalPartition) → FirstAt e.starting_lba ls
+    → Row (Good (end_of e)) ls None → Sound (relist t ls)
 unfolding relist
 relist-sound t e s x ls f g = resound (end_of e) t e refl s x ls f g
 
@@ -145,12 +145,12 @@ miss-all : (a : ℕ) (e : MBRPartitionEntry) (ps : List MBRPartitionEntry) → U
 miss-all a e [] u i h = tt
 miss-all a e (p ∷ ps) u i h = ((λ v n j. apart_in e p (h.0 u v) a i j), miss-all a e ps u i h.1)
 
-ext-miss : (a : ℕ) (e : MBRPartitionEntry) (ps : List MBRPartitionEntry) → Pairs Apart ps → extended_of ps ≡ some e → In a e → All (Miss a) ps
+ext-miss : (a : ℕ) (e : MBRPartitionEntry) (ps : List MBRPartitionEntry) → Pairs Apart ps → extended_of ps ≡ Some e → In a e → All (Miss a) ps
 unfolding extended_of
 ext-miss a e [] h q i = tt
 ext-miss a e (p ∷ ps) h q i = go (ext-miss a e ps h.1) (ext-go (λ z. Unit {0}) e p ps (extended p.sys) refl q)
   where
-    go : (extended_of ps ≡ some e → In a e → All (Miss a) ps) → ((p ≡ e) × Extended p) ⊎ ((extended p.sys ≡ false) × (extended_of ps ≡ some e))
+    go : (extended_of ps ≡ Some e → In a e → All (Miss a) ps) → ((p ≡ e) × Extended p) ⊎ ((extended p.sys ≡ false) × (extended_of ps ≡ Some e))
         → Miss a p × All (Miss a) ps
     go ih (inl c) =
         let ip : In a p = subst (In a) (sym c.0) i in
@@ -159,7 +159,7 @@ ext-miss a e (p ∷ ps) h q i = go (ext-miss a e ps h.1) (ext-go (λ z. Unit {0}
         let ae : Apart p e × Extended e = ext-all (Apart p) e ps h.0 c.1 in
         ((λ u n j. apart_in p e (ae.0 u (extended-used e.sys ae.1)) a j i), ih c.1 i)
 
-pub clear_of : (t : Contents) (e : MBRPartitionEntry) (a : ℕ) → Sound t → extended_entry t ≡ some e → In a e → (ls : List LogicalPartition)
+pub clear_of : (t : Contents) (e : MBRPartitionEntry) (a : ℕ) → Sound t → extended_entry t ≡ Some e → In a e → (ls : List LogicalPartition)
     → All (λ l. ¬ (In a l.partition)) ls → ClearOf a (relist t ls)
 unfolding relist
 clear_of t e a s x i ls h = record { primaries = ext-miss a e (primaries_of t) s.apart x i; logicals = h }

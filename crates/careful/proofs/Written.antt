@@ -1,7 +1,7 @@
 -- An EBR written and seen again; one store, and what a held chain is then. Assumes nothing.
 use mathlib.Core.Path.{◌≡◌, refl, ap, sym, subst, ◌∙◌}
 use mathlib.Core.Logic.{◌≢◌}
-use mathlib.Core.Option.{Option, none, some}
+use Rattle.std.specs.Prelude.{Option, None, Some}
 use mathlib.Core.Bool.{Bool, true, false}
 use mathlib.Core.List.{List, [], ◌∷◌, ◌++◌}
 use Prim.Native.Nat.{ℕ, ◌^◌, ◌<◌}
@@ -24,8 +24,6 @@ use Rattle.record_ebr.specs.Ebr.{ebr_checks, ebr_read_checks, ebr_of, ebr_bytes,
 use Rattle.record_ebr.proofs.Laws.{ebr-back, ebr-reads, ebr-record, ebr-ok}
 use Rattle.extract.specs.Disk.{Disk, Store, stored}
 use Rattle.extract.proofs.Disk.{sector-same, sector-other, size-stored}
-use Rattle.table.specs.declared.MaybeSectors.TheVariants.{Present}
-use Rattle.table.specs.declared.MaybeChs.TheVariants.{Present as SomeChs}
 use Rattle.table.specs.declared.LogicalPartition.{LogicalPartition}
 use Rattle.chain.specs.Chain.{view, Link, link_of, by_link}
 use Rattle.chain.specs.Facts.{Body, Next, stop, to, View, ebr, next_of, body_in, viewed, seen, at, body_of, leads, Held}
@@ -43,8 +41,8 @@ pub record BodyOk (b : Body) : Type 0 where
 pub record LinkOk (r : ℕ) (k : Link) : Type 0 where
   pub span : ℕ
   pub tail : CHS
-  pub sectors : k.sectors ≡ Present span
-  pub last : k.last ≡ SomeChs tail
+  pub sectors : k.sectors ≡ Some span
+  pub last : k.last ≡ Some tail
   pub above : 0 < r
   pub small : r < 2 ^ 32
   pub span_small : span < 2 ^ 32
@@ -65,8 +63,8 @@ unfolding next_of link_entry
 next-back sys stop k = refl
 next-back sys (to r k) o =
     let z : eqb r 0 ≡ false = ne_eqb r 0 (omega (arith, o.above)) in
-    let s : k.sectors ≡ Present o.span = o.sectors in
-    let c : k.last ≡ SomeChs o.tail = o.last in
+    let s : k.sectors ≡ Some o.span = o.sectors in
+    let c : k.last ≡ Some o.tail = o.last in
     rw (z, s, c)
 
 link-ok : (sys : ℕ) (n : Next) → sys < 256 → NextOk n → EntryOk (link_entry sys n)
@@ -124,7 +122,7 @@ next-ok e k = go (eqb e.starting_lba 0) refl
     pos : (n : ℕ) → (n ≡ 0 → ⊥) → 0 < n
     pos n h = omega arith
 
-    go : (t : Bool) → eqb e.starting_lba 0 ≡ t → NextOk (by_link stop (λ r. to r (link_of e)) (pick t none (some e.starting_lba)))
+    go : (t : Bool) → eqb e.starting_lba 0 ≡ t → NextOk (by_link stop (λ r. to r (link_of e)) (pick t None (Some e.starting_lba)))
     go true q = tt
     go false q = record {
       span = e.sectors;
@@ -173,13 +171,13 @@ pub held-off : (X : ℕ) (v w : ℕ → View) (a : ℕ) (x : View) → Put v a x
 held-off X v w a x p = row-zip (Off a) (Held v X) (Held w X) (λ l n o h. p.other (at l) o ∙ h)
 
 -- the EBR of `l` rewritten to lead to `ns`, which is held: `ns` for what followed
-pub relink : (X hi : ℕ) (ls : List LogicalPartition) (l : LogicalPartition) (ns : List LogicalPartition) (v w : ℕ → View) → Put v (at l) (image X l (next ns none)) w
-    → Row (Fit hi) ls (some l) → Row (Fit hi) (l ∷ ns) none → Row (Held v X) ls (some l) → Row (Held v X) ns none → Row (Held w X) (ls ++ l ∷ ns) none
+pub relink : (X hi : ℕ) (ls : List LogicalPartition) (l : LogicalPartition) (ns : List LogicalPartition) (v w : ℕ → View) → Put v (at l) (image X l (next ns None)) w
+    → Row (Fit hi) ls (Some l) → Row (Fit hi) (l ∷ ns) None → Row (Held v X) ls (Some l) → Row (Held v X) ns None → Row (Held w X) (ls ++ l ∷ ns) None
 relink X hi ls l ns v w p fl fn hl hn =
-    row-join (Held w X) ls (l ∷ ns) none
-    (held-off X v w (at l) (image X l (next ns none)) p ls (some l) (off-under hi (at l) ls (some l) fl (omega arith)) hl)
-    (p.same, held-off X v w (at l) (image X l (next ns none)) p ns none (rest ns fn) hn)
+    row-join (Held w X) ls (l ∷ ns) None
+    (held-off X v w (at l) (image X l (next ns None)) p ls (Some l) (off-under hi (at l) ls (Some l) fl (omega arith)) hl)
+    (p.same, held-off X v w (at l) (image X l (next ns None)) p ns None (rest ns fn) hn)
   where
-    rest : (ns : List LogicalPartition) → Row (Fit hi) (l ∷ ns) none → Row (Off (at l)) ns none
+    rest : (ns : List LogicalPartition) → Row (Fit hi) (l ∷ ns) None → Row (Off (at l)) ns None
     rest [] f = tt
-    rest (m ∷ ms) f = off-over hi (at l) m ms none f.1 (omega (arith, f.0.above, f.0.ends))
+    rest (m ∷ ms) f = off-over hi (at l) m ms None f.1 (omega (arith, f.0.above, f.0.ends))

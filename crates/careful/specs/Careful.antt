@@ -1,6 +1,6 @@
 -- Careful push and careful removal on a disk: refusals in their order, else the stores and the table after. Assumes nothing.
 use Rattle.std.specs.Prelude.{ℕ, ◌+◌, ◌-◌, Bool, true, false, not, ◌&&◌, List, [], ◌∷◌, ◌++◌, ltb, leb, length}
-use Rattle.std.proofs.Math.Option.{get_or}
+use Rattle.std.specs.Prelude.{unwrap_or}
 use Rattle.base.specs.Said.{Said, and_then}
 use Rattle.base.specs.Checks.{Check, ◌!◌, checked, answer}
 use Rattle.record_entry.specs.declared.MBRPartitionEntry.{MBRPartitionEntry}
@@ -28,7 +28,7 @@ relist t ls = record { width = t.width; size = t.size; header = t.header; logica
 
 -- the extended entry
 abbrev pub extended_area : Contents → MBRPartitionEntry
-extended_area t = get_or (extended_entry t) no_entry
+extended_area t = unwrap_or (extended_entry t) no_entry
 
 -- what a careful change yields: stores in their order, and the table after them
 pub record Change : Type 0 where

@@ -1,6 +1,6 @@
 -- Demand 3: pull the drive at any moment of a careful change. The contracts of `careful_push` and `careful_remove` promise it. Assumes nothing.
 use Rattle.std.specs.Prelude.{ℕ, ◌+◌, ◌*◌, ◌≤◌, ◌<◌, ◌≡◌, ◌⊎◌, List, length, take, drop}
-use Rattle.std.proofs.Math.Option.{none}
+use Rattle.std.specs.Prelude.{None}
 use Rattle.base.specs.Bytes.{Record}
 use Rattle.base.specs.Said.{Said, gives, refuses, and_then}
 use Rattle.base.specs.Checks.{Check, first-fail, AllHold, FirstFail}
@@ -83,7 +83,7 @@ pub record Pushes (q : Request) (t : Table) (u : MBR) : Type 0 where
 
 -- the crate's own removal of partition n from the table t: no refusal, and the table u
 pub record Removes (n : ℕ) (t : Table) (u : MBR) : Type 0 where
-  pub unrefused : first-fail (remove_checks (table_of t) n) ≡ none
+  pub unrefused : first-fail (remove_checks (table_of t) n) ≡ None
   pub table : removed_table (table_of t) n ≡ u
 
 -- after a push the new partition, the crate's last, stands at its place in the order of t; then the first-place rule

@@ -1,6 +1,6 @@
 -- The first-place rule; the stores of a push and of a removal. Assumes nothing.
 use Rattle.std.specs.Prelude.{ℕ, zero, suc, ◌+◌, ◌-◌, List, [], ◌∷◌, ◌++◌, length, take, drop}
-use Rattle.std.proofs.Math.Option.{none, some}
+use Rattle.std.specs.Prelude.{None, Some}
 use Rattle.base.specs.Row.{next}
 use Rattle.record_entry.specs.declared.MBRPartitionEntry.{MBRPartitionEntry}
 use Rattle.extract.specs.Disk.{Store}
@@ -25,18 +25,18 @@ last_moved k ls = take k (take (length ls - 1) ls) ++ last_listed ls ∷ drop k 
 
 -- rules K16 to K18: into an empty chain one record at X; else the new EBR with its link to what follows, then the EBR before it with a link to the new one (rule K17)
 unfoldable pub push_stores : MBRPartitionEntry → ℕ → List LogicalPartition → LogicalPartition → List Store
-push_stores e p [] new = write e (moved e new) none ∷ []
-push_stores e p (l ∷ ls) new = write e new (later_one p (l ∷ ls)) ∷ write e (earlier p (l ∷ ls)) (some new) ∷ []
+push_stores e p [] new = write e (moved e new) None ∷ []
+push_stores e p (l ∷ ls) new = write e new (later_one p (l ∷ ls)) ∷ write e (earlier p (l ∷ ls)) (Some new) ∷ []
 
 -- rule V7: the EBR before the one at place i of those behind l
 unfoldable pub skip_store : MBRPartitionEntry → LogicalPartition → List LogicalPartition → ℕ → Store
-skip_store e l [] i = write e l none
-skip_store e l (y ∷ ms) zero = write e l (next ms none)
+skip_store e l [] i = write e l None
+skip_store e l (y ∷ ms) zero = write e l (next ms None)
 skip_store e l (y ∷ ms) (suc i) = skip_store e y ms i
 
 -- rules V7 and V11: the EBR before it; for the first, X now describes the second; for the only one, zeros at X
 unfoldable pub remove_store : MBRPartitionEntry → List LogicalPartition → ℕ → Store
 remove_store e [] i = wipe e
 remove_store e (y ∷ []) zero = wipe e
-remove_store e (y ∷ m ∷ ms) zero = write e (moved e m) (next ms none)
+remove_store e (y ∷ m ∷ ms) zero = write e (moved e m) (next ms None)
 remove_store e (l ∷ ls) (suc i) = skip_store e l ls i

@@ -1,17 +1,18 @@
 -- What a careful change answers: refusals in their order, else its stores. Assumes nothing.
+use Rattle.base.specs.declared.Refusal.{Refusal}
 use mathlib.Core.Path.{◌≡◌, refl, ap, sym, subst, ◌∙◌}
 use mathlib.Core.Bool.{Bool, true, false, not}
-use mathlib.Core.Option.{Option, none, some}
+use Rattle.std.specs.Prelude.{Option, None, Some, Result}
 use mathlib.Core.List.{List, [], ◌∷◌, ◌++◌}
-use Prim.Native.Nat.{ℕ, suc, ◌+◌, ◌*◌, ◌≤◌, ◌<◌}
+use Prim.Native.Nat.{ℕ, ◌+◌, ◌*◌, ◌≤◌, ◌<◌}
 use native.Mathlib.Omega.{arith}
 use lib.Dec.{leb}
 use lib.ListN.{length}
-use borrow.Author.Tests.{leb-true, ne_eqb}
+use borrow.Author.Tests.{leb-true}
 use Rattle.base.specs.Pick.{pick}
-use Rattle.base.specs.Said.{refuses, failure}
+use Rattle.base.specs.Said.{answered, refuses, failure}
 use Rattle.base.specs.Checks.{Check, ◌!◌, checked, first-fail, AllHold}
-use Rattle.base.proofs.Checks.{checked-some, checked-none, checked-append, append-fails, append-holds, none-fails, hold-right}
+use Rattle.base.proofs.Checks.{checked-none, checked-append, append-fails, append-holds, none-fails, hold-right}
 use Rattle.careful.specs.Stores.{push_stores}
 use Rattle.record_entry.specs.declared.MBRPartitionEntry.{MBRPartitionEntry}
 use Rattle.record_entry.specs.Entry.{used, extended, end_of}
@@ -28,11 +29,10 @@ use Rattle.careful.specs.Output.{out_after, stores_counted}
 use Rattle.careful.proofs.Changing.{read-refused, read_told}
 use Rattle.careful.proofs.Accepted.{place-hold, align-hold}
 use Rattle.sound.proofs.Good.{sized-end}
-use Rattle.careful_stores.specs.declared.push_writer.Changed.{Changed}
 use Rattle.careful_stores.specs.declared.push_writer.Between.{Between}
-use Rattle.careful_stores.specs.Order.{up_to, order_at, earlier, later_one, between}
+use Rattle.careful_stores.specs.Order.{order_at, earlier, earlier_one, last_listed, later_one, between}
 use Rattle.careful_stores.specs.Linked.{link_behind, linked_store}
-use Rattle.careful_stores.specs.Behind.{changed_said, Tells, stores_between}
+use Rattle.careful_stores.specs.Behind.{Tells, stores_between}
 use Rattle.careful_stores.specs.Space.{space_between}
 use Rattle.careful_stores.proofs.ebr_store.Laws.{write-linked}
 use Rattle.chain.specs.Links.{write}
@@ -42,14 +42,14 @@ use Rattle.careful_stores.proofs.push_writer.Laws.{tells-same}
 
 -- what a careful push says of an extract
 module _ (x : List ℕ) (room : ℕ) where
-  pub push-unread : (q : Request) (old : List ℕ) (k : ℕ) → failure (read_says x) ≡ some k
+  pub push-unread : (q : Request) (old : List ℕ) (k : ℕ) → failure (read_says x) ≡ Some k
       → (refuses k ≡ stores_counted (careful_push_says x room q)) × (old ≡ out_after old (careful_push_says x room q))
   unfolding careful_push_says
   push-unread q old k h = read-refused (push_refusals room q) (push_change q) (read_says x) old k h
 
-  pub push-read : (q : Request) (r : Changed) (old new : List ℕ) (t : MBR) → failure (read_says x) ≡ none → t ≡ table_for (read_says x)
+  pub push-read : (q : Request) (r : Result ℕ Refusal) (old new : List ℕ) (t : MBR) → failure (read_says x) ≡ None → t ≡ table_for (read_says x)
       → Tells r old new (push_refusals room q (contents_of t)) (push_change q (contents_of t)).stores
-      → (changed_said r ≡ stores_counted (careful_push_says x room q)) × (new ≡ out_after old (careful_push_says x room q))
+      → (answered r ≡ stores_counted (careful_push_says x room q)) × (new ≡ out_after old (careful_push_says x room q))
   unfolding careful_push_says
   push-read q r old new t h e w =
       read_told (push_refusals room q) (push_change q) (read_says x) r old new h
@@ -77,7 +77,7 @@ module _ (later : Bool) (q : Request) where
       ends true = omega arith
       ends false = omega arith
 
-size : (q : Request) (e : MBRPartitionEntry) (n : ℕ) → AllHold (push_checks q (some e) n) → q.align < size_of q
+size : (q : Request) (e : MBRPartitionEntry) (n : ℕ) → AllHold (push_checks q (Some e) n) → q.align < size_of q
 unfolding place_checks
 size q e n a =
     let p : AllHold (place_checks q e) = hold-right ((8 ! true) ∷ round_checks q) (place_checks q e) (place-hold q e n a) in
@@ -86,12 +86,12 @@ size q e n a =
 
 -- push's refusals come before them
 module _ (room : ℕ) (q : Request) (e : MBRPartitionEntry) (n : ℕ) (ls : List LogicalPartition) where
-  pub among-fails : (k : ℕ) → first-fail (push_checks q (some e) n) ≡ some k → first-fail (checks_among room q e n ls) ≡ some k
-  among-fails k h = append-fails (push_checks q (some e) n) (space_among room q e ls) k some none h
+  pub among-fails : (k : ℕ) → first-fail (push_checks q (Some e) n) ≡ Some k → first-fail (checks_among room q e n ls) ≡ Some k
+  among-fails k h = append-fails (push_checks q (Some e) n) (space_among room q e ls) k Some None h
 
-  module _ (new : LogicalPartition) (h : first-fail (push_checks q (some e) n) ≡ none) (m : new ≡ new_logical (later_than n) q) where
-    holds : AllHold (push_checks q (some e) n)
-    holds = none-fails (push_checks q (some e) n) h
+  module _ (new : LogicalPartition) (h : first-fail (push_checks q (Some e) n) ≡ None) (m : new ≡ new_logical (later_than n) q) where
+    holds : AllHold (push_checks q (Some e) n)
+    holds = none-fails (push_checks q (Some e) n) h
 
     at_place : at new ≡ place_of q
     at_place = ap at m ∙ new-at (later_than n) q
@@ -102,11 +102,11 @@ module _ (room : ℕ) (q : Request) (e : MBRPartitionEntry) (n : ℕ) (ls : List
     pub among-holds : (b : Between) → b ≡ between e (at new) ls → first-fail (checks_among room q e n ls) ≡ first-fail (space_between e b new room)
     unfolding between
     among-holds b k =
-        append-holds (push_checks q (some e) n) (space_among room q e ls) some none holds
+        append-holds (push_checks q (Some e) n) (space_among room q e ls) Some None holds
         ∙ rw (k, at-end, at_place)
 
     pub among-stores : (b : Between) → b ≡ between e (at new) ls → push_stores e (place_of q) ls (new_logical (later_than n) q) ≡ stores_between e b new
-    unfolding between push_stores order_at
+    unfolding between push_stores order_at earlier earlier_one last_listed
     among-stores b k =
         ap (push_stores e (place_of q) ls) (sym m) ∙ go ls
         ∙ ap (λ (p : ℕ). stores_between e (between e p ls) new) (sym at_place) ∙ ap (λ (z : Between). stores_between e z new) (sym k)
@@ -114,35 +114,27 @@ module _ (room : ℕ) (q : Request) (e : MBRPartitionEntry) (n : ℕ) (ls : List
         go : (ls : List LogicalPartition) → push_stores e (place_of q) ls new ≡ stores_between e (between e (place_of q) ls) new
         go [] = refl
         go (l ∷ ls) =
-            rw (ne_eqb (suc (up_to (place_of q) ls)) 0 (λ z. omega arith))
-            (ap (λ (s : Store). s ∷ write e (earlier (place_of q) (l ∷ ls)) (some new) ∷ []) (write-linked e new (later_one (place_of q) (l ∷ ls)))
-            ∙ ap (λ (s : Store). linked_store new (link_behind e (later_one (place_of q) (l ∷ ls))) ∷ s ∷ []) (write-linked e (earlier (place_of q) (l ∷ ls)) (some new)))
+            ap (λ (s : Store). s ∷ write e (earlier (place_of q) (l ∷ ls)) (Some new) ∷ []) (write-linked e new (later_one (place_of q) (l ∷ ls)))
+            ∙ ap (λ (s : Store). linked_store new (link_behind e (later_one (place_of q) (l ∷ ls))) ∷ s ∷ []) (write-linked e (earlier (place_of q) (l ∷ ls)) (Some new))
 
-eight : (q : Request) (o : Option MBRPartitionEntry) (n : ℕ) → o ≡ none → first-fail (push_checks q o n) ≡ some 8
-unfolding push_checks
-eight q o n x = rw x
-
-space-at : (room : ℕ) (q : Request) (t : Contents) (e : MBRPartitionEntry) → extended_entry t ≡ some e
+space-at : (room : ℕ) (q : Request) (t : Contents) (e : MBRPartitionEntry) → extended_entry t ≡ Some e
     → space_checks q t ++ (19 ! leb room_needed room) ∷ [] ≡ space_among room q e t.logicals
 unfolding space_checks area_end
 space-at room q t e x = rw x
 
 -- what is asked for is refused by 23, or by none of these checks
-ask-says : (q : Request) → first-fail (ask_checks q) ≡ pick (askable q) none (some 23)
+ask-says : (q : Request) → first-fail (ask_checks q) ≡ pick (askable q) None (Some 23)
 unfolding ask_checks
 ask-says q = go (used q.sys) (not (extended q.sys)) (not (too_wide q.geometry))
   where
-    go : (a b c : Bool) → ◌≡◌ {A = Option ℕ} (pick a (pick b (pick c none (some 23)) (some 23)) (some 23)) (pick (pick a (pick b (pick c true false) false) false) none (some 23))
+    go : (a b c : Bool) → ◌≡◌ {A = Option ℕ} (pick a (pick b (pick c None (Some 23)) (Some 23)) (Some 23)) (pick (pick a (pick b (pick c true false) false) false) None (Some 23))
     go true true true = refl
     go true true false = refl
     go true false c = refl
     go false b c = refl
 
-pub ask-fails : (q : Request) → askable q ≡ false → first-fail (ask_checks q) ≡ some 23
-ask-fails q e = ask-says q ∙ ap (λ (b : Bool). pick b none (some 23)) e
-
-pub ask_holds : (q : Request) → askable q ≡ true → first-fail (ask_checks q) ≡ none
-ask_holds q e = ask-says q ∙ ap (λ (b : Bool). pick b none (some 23)) e
+pub ask_holds : (q : Request) → askable q ≡ true → first-fail (ask_checks q) ≡ None
+ask_holds q e = ask-says q ∙ ap (λ (b : Bool). pick b None (Some 23)) e
 
 -- 20, 23 and 8 of a careful push, and what is left
 module _ (room : ℕ) (q : Request) (t : Contents) where
@@ -155,41 +147,32 @@ module _ (room : ℕ) (q : Request) (t : Contents) where
   abbrev room-check : List Check
   room-check = (19 ! leb room_needed room) ∷ []
 
-  push-parts : first-fail (push_refusals room q t) ≡ checked asks some (checked pushes some (checked (space_checks q t) some (first-fail room-check)))
+  push-parts : first-fail (push_refusals room q t) ≡ checked asks Some (checked pushes Some (checked (space_checks q t) Some (first-fail room-check)))
   unfolding push_refusals
   push-parts =
-      checked-append (asks ++ pushes ++ space_checks q t) room-check some none
-      ∙ checked-append (asks ++ pushes) (space_checks q t) some (first-fail room-check)
-      ∙ checked-append asks pushes some (checked (space_checks q t) some (first-fail room-check))
+      checked-append (asks ++ pushes ++ space_checks q t) room-check Some None
+      ∙ checked-append (asks ++ pushes) (space_checks q t) Some (first-fail room-check)
+      ∙ checked-append asks pushes Some (checked (space_checks q t) Some (first-fail room-check))
 
-  pub push-20 : soundb t ≡ false → first-fail (push_refusals room q t) ≡ some 20
-  push-20 h = push-parts ∙ rw h
+  module _ (h : soundb t ≡ true) (a : first-fail (ask_checks q) ≡ None) where
+    push-asked : first-fail (push_refusals room q t) ≡ checked pushes Some (checked (space_checks q t) Some (first-fail room-check))
+    push-asked = push-parts ∙ rw h (checked-none (ask_checks q) Some (checked pushes Some (checked (space_checks q t) Some (first-fail room-check))) a)
 
-  pub push-23 : soundb t ≡ true → first-fail (ask_checks q) ≡ some 23 → first-fail (push_refusals room q t) ≡ some 23
-  push-23 h a = push-parts ∙ rw h (checked-some (ask_checks q) some (checked pushes some (checked (space_checks q t) some (first-fail room-check))) 23 a)
-
-  module _ (h : soundb t ≡ true) (a : first-fail (ask_checks q) ≡ none) where
-    push-asked : first-fail (push_refusals room q t) ≡ checked pushes some (checked (space_checks q t) some (first-fail room-check))
-    push-asked = push-parts ∙ rw h (checked-none (ask_checks q) some (checked pushes some (checked (space_checks q t) some (first-fail room-check))) a)
-
-    pub push-8 : extended_entry t ≡ none → first-fail (push_refusals room q t) ≡ some 8
-    push-8 x = push-asked ∙ checked-some pushes some (checked (space_checks q t) some (first-fail room-check)) 8 (eight q (extended_entry t) (length t.logicals) x)
-
-    push-among : (e : MBRPartitionEntry) (n : ℕ) → extended_entry t ≡ some e → length t.logicals ≡ n
+    push-among : (e : MBRPartitionEntry) (n : ℕ) → extended_entry t ≡ Some e → length t.logicals ≡ n
         → first-fail (push_refusals room q t) ≡ first-fail (checks_among room q e n t.logicals)
     push-among e n x l =
         push-asked
-        ∙ ap (λ (k : Option ℕ). checked pushes some k) (sym (checked-append (space_checks q t) room-check some none) ∙ ap first-fail (space-at room q t e x))
-        ∙ sym (checked-append pushes (space_among room q e t.logicals) some none)
+        ∙ ap (λ (k : Option ℕ). checked pushes Some k) (sym (checked-append (space_checks q t) room-check Some None) ∙ ap first-fail (space-at room q t e x))
+        ∙ sym (checked-append pushes (space_among room q e t.logicals) Some None)
         ∙ rw (x, l)
 
-  push-stores : (e : MBRPartitionEntry) (n : ℕ) → extended_entry t ≡ some e → length t.logicals ≡ n
+  push-stores : (e : MBRPartitionEntry) (n : ℕ) → extended_entry t ≡ Some e → length t.logicals ≡ n
       → (push_change q t).stores ≡ push_stores e (place_of q) t.logicals (new_logical (later_than n) q)
   unfolding push_change
   push-stores e n x l = rw (x, l)
 
-  pub push-told : soundb t ≡ true → first-fail (ask_checks q) ≡ none → (e : MBRPartitionEntry) (n : ℕ) → extended_entry t ≡ some e → length t.logicals ≡ n
-      → (r : Changed) (old new : List ℕ) → Tells r old new (checks_among room q e n t.logicals) (push_stores e (place_of q) t.logicals (new_logical (later_than n) q))
+  pub push-told : soundb t ≡ true → first-fail (ask_checks q) ≡ None → (e : MBRPartitionEntry) (n : ℕ) → extended_entry t ≡ Some e → length t.logicals ≡ n
+      → (r : Result ℕ Refusal) (old new : List ℕ) → Tells r old new (checks_among room q e n t.logicals) (push_stores e (place_of q) t.logicals (new_logical (later_than n) q))
       → Tells r old new (push_refusals room q t) (push_change q t).stores
   push-told h a e n x l r old new w =
       tells-same r old new (push_refusals room q t) (checks_among room q e n t.logicals) (push_change q t).stores (push_stores e (place_of q) t.logicals (new_logical (later_than n) q))

@@ -6,33 +6,21 @@ use record_entry::MBRPartitionEntry;
 use table_push::{Geometry, Request};
 
 // A geometry that would be complete but for more than 63 sectors?
+#[tactic(auto, unfolding(careful::specs::Careful::too_wide))]
 fn is_too_wide(g: Geometry) -> bool
     ensures { result ≡ too_wide g }
 {
-    if g.cylinders == 0 {
-        return false;
-    }
-    if 1023 < g.cylinders {
-        return false;
-    }
-    if g.heads == 0 {
-        return false;
-    }
-    63 < g.sectors
+    g.cylinders != 0 && g.cylinders <= 1023 && g.heads != 0 && 63 < g.sectors
 }
 
 // May a careful push ask for this? Not for type 0, not for an extended type, not with a geometry that is too wide.
+#[tactic(auto, unfolding(careful::specs::Careful::ask_checks))]
 pub fn is_askable(q: Request) -> bool
     ensures { result ≡ askable q }
 {
-    let mut p = MBRPartitionEntry::empty();
-    p.sys = q.sys;
-    if !p.is_used() {
-        return false;
-    }
-    if p.is_extended() {
-        return false;
-    }
-    let g = q.geometry;
-    !is_too_wide(g)
+    let p = MBRPartitionEntry {
+        sys: q.sys,
+        ..MBRPartitionEntry::empty()
+    };
+    p.is_used() && !p.is_extended() && !is_too_wide(q.geometry)
 }

@@ -7,6 +7,8 @@ ghost use Rattle.careful.specs.Stores.{remove_store};
 ghost use Rattle.careful_stores.specs.Linked.{link_behind};
 ghost use Rattle.careful_remove.specs.Place.{place_in};
 
+use careful_stores::ebr_store::{move_first, put_ebr, put_wipe};
+use chain::links::link_to;
 use record_entry::MBRPartitionEntry;
 use table::MBR;
 
@@ -15,11 +17,10 @@ fn link_at(t: MBR, e: MBRPartitionEntry, i: usize) -> MBRPartitionEntry
     requires { t.count ≤ most }
     ensures { result ≡ link_behind e (place_in (logicals t) i) }
 {
-    if t.count <= i {
-        return MBRPartitionEntry::empty();
+    match t.logical_partitions[..t.count].get(i) {
+        None => MBRPartitionEntry::empty(),
+        Some(l) => link_to(e, *l),
     }
-    let l = t.logical_partitions[i];
-    chain::links::link_to(e, l)
 }
 
 // The store of a removal: the EBR before place i; for the first, X describes the second; for the only one, zeros at X.
@@ -28,17 +29,15 @@ pub fn put_removal(out: &mut [u8], t: MBR, e: MBRPartitionEntry, i: usize)
     ensures { out.new ≡ put out.old 0 (store_bytes (remove_store e (logicals t) i)) }
 {
     if t.count == 1 {
-        careful_stores::ebr_store::put_wipe(out, e);
-        return;
+        put_wipe(out, e);
+    } else if i == 0 {
+        put_ebr(
+            out,
+            0,
+            move_first(e, t.logical_partitions[1]),
+            link_at(t, e, 2),
+        );
+    } else {
+        put_ebr(out, 0, t.logical_partitions[i - 1], link_at(t, e, i + 1));
     }
-    if i == 0 {
-        let second = t.logical_partitions[1];
-        let first = careful_stores::ebr_store::move_first(e, second);
-        let link = link_at(t, e, 2);
-        careful_stores::ebr_store::put_ebr(out, 0, first, link);
-        return;
-    }
-    let before = t.logical_partitions[i - 1];
-    let link = link_at(t, e, i + 1);
-    careful_stores::ebr_store::put_ebr(out, 0, before, link);
 }

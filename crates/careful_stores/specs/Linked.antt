@@ -1,5 +1,5 @@
 -- The EBR of a logical partition with a link, as a store. Assumes nothing.
-use Rattle.std.proofs.Math.Option.{Option}
+use Rattle.std.specs.Prelude.{Option}
 use Rattle.record_entry.specs.declared.MBRPartitionEntry.{MBRPartitionEntry}
 use Rattle.record_ebr.specs.Ebr.{ebr_bytes}
 use Rattle.extract.specs.Disk.{Store}

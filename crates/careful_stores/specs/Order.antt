@@ -1,6 +1,6 @@
 -- Where a new partition goes among others: its place in the order, the one before it and the one behind it. Assumes nothing.
 use Rattle.std.specs.Prelude.{ℕ, suc, List, [], ◌∷◌, leb, take, drop}
-use Rattle.std.proofs.Math.Option.{Option, none}
+use Rattle.std.specs.Prelude.{Option, None, Some}
 use Rattle.base.specs.Pick.{pick}
 use Rattle.base.specs.Row.{next}
 use Rattle.record_entry.specs.declared.MBRPartitionEntry.{MBRPartitionEntry}
@@ -35,20 +35,24 @@ order_at p (l ∷ ls) = suc (up_to p ls)
 unfoldable pub earlier : ℕ → List LogicalPartition → LogicalPartition
 earlier p ls = last_listed (take (order_at p ls) ls)
 
+-- the one before it, if there is one
+unfoldable pub earlier_one : ℕ → List LogicalPartition → Option LogicalPartition
+earlier_one p [] = None
+earlier_one p (l ∷ ls) = Some (last_logical l (take (up_to p ls) ls))
+
 -- those behind it
 unfoldable pub behind_at : ℕ → List LogicalPartition → List LogicalPartition
 behind_at p ls = drop (order_at p ls) ls
 
 -- the one behind it, if there is one
 abbrev pub later_one : ℕ → List LogicalPartition → Option LogicalPartition
-later_one p ls = next (behind_at p ls) none
+later_one p ls = next (behind_at p ls) None
 
--- what a new partition at p stands between, in the extended entry e: how many are before it, the last of them, where it must end, and the link to what follows
+-- what a new partition at p stands between, in the extended entry e: the one before it, where it must end, and the link to what follows
 unfoldable pub between : MBRPartitionEntry → ℕ → List LogicalPartition → Between
 between e p ls =
     record {
-      order = order_at p ls;
-      earlier = earlier p ls;
+      earlier = earlier_one p ls;
       bound = bound (end_of e) (later_one p ls);
       link = link_behind e (later_one p ls);
     }

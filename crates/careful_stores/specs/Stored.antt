@@ -1,11 +1,9 @@
 -- Rules K22, K27 and V11. Stores in lent bytes, each its LBA (4 bytes, little-endian) and a record; the wiping store, and the first place. Assumes nothing.
-use Rattle.std.specs.Prelude.{ℕ, ◌+◌, ◌*◌, List, [], ◌∷◌, ◌++◌}
+use Rattle.std.specs.Prelude.{ℕ, ◌+◌, ◌*◌, List, [], ◌∷◌, ◌++◌, None}
 use Rattle.base.specs.Bytes.{bytes_of, little}
 use Rattle.record_entry.specs.declared.MBRPartitionEntry.{MBRPartitionEntry}
 use Rattle.extract.specs.Disk.{Store}
 use Rattle.extract.specs.Extract.{blank}
-use Rattle.table.specs.declared.MaybeSectors.TheVariants.{Absent}
-use Rattle.table.specs.declared.MaybeChs.TheVariants.{Absent as NoChs}
 use Rattle.table.specs.declared.LogicalPartition.{LogicalPartition}
 
 unfoldable pub store_bytes : Store → List ℕ
@@ -34,8 +32,8 @@ moved e l =
     record {
       partition = l.partition;
       absolute_ebr_lba = record { 0 = e.starting_lba };
-      ebr_sectors = Absent;
+      ebr_sectors = None;
       ebr_first_chs = e.first_chs;
-      ebr_last_chs = NoChs;
+      ebr_last_chs = None;
       kept = l.kept;
     }

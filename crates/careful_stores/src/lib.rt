@@ -1,6 +1,6 @@
 // The stores of a careful change, put into lent bytes.
 // Scope: Careful changes (a store is its LBA and a record; the first logical moved to X; zeros at X). Rules: K, V.
-// For our crates: `ebr_store`, `push_stores::push_new`, `push_writer::put_push`, `Changed`.
+// For our crates: `ebr_store`, `push_stores::push_new`, `push_writer::put_push`.
 #![tactic(auto)]
 
 pub mod ebr_store;

@@ -3,45 +3,45 @@ ghost use Rattle.std.specs.Prelude.{◌≡◌, length};
 ghost use Rattle.careful_stores.specs.Behind.{Tells, stores_between};
 ghost use Rattle.careful_stores.specs.Space.{end_behind, space_between};
 
-use crate::push_writer::{Between, Changed};
+use crate::push_writer::{Between, put_push};
 use base::Refusal;
 use record_entry::MBRPartitionEntry;
+use sound::by_itself::ends_at;
+use sound::in_turn::end_of;
 use table::LogicalPartition;
 
 // The bytes that two stores take.
 pub const STORES: usize = 2 * crate::STORE;
 
-// Where the last of n ends; 0 if there is none: an unused slot is no EBR without a partition.
-fn end_behind(n: usize, last: LogicalPartition) -> u64
-    ensures { result ≡ end_behind n last }
+// Where the one before ends; 0 if there is none.
+fn end_behind(earlier: Option<LogicalPartition>) -> u64
+    ensures { result ≡ end_behind earlier }
 {
-    if n == 0 {
-        return 0;
-    }
-    sound::by_itself::ends_at(last)
+    earlier.map_or(0, ends_at)
 }
 
 // 12, 21, 19 of a new partition that stands there, else its stores.
-pub fn push_new(e: MBRPartitionEntry, b: Between, new: LogicalPartition, out: &mut [u8]) -> Changed
+pub fn push_new(
+    e: MBRPartitionEntry,
+    b: Between,
+    new: LogicalPartition,
+    out: &mut [u8],
+) -> Result<usize, Refusal>
     ensures { Tells result out.old out.new (space_between e b new (length out.old)) (stores_between e b new) }
 {
-    let at = new.absolute_ebr_lba;
-    let place = at.0 as u64;
-    let area = sound::in_turn::end_of(e);
-    let end = sound::by_itself::ends_at(new);
-    let former = b.earlier;
-    let behind = end_behind(b.order, former);
-    if area < end {
-        return Changed::Refused(Refusal::AFTER_END);
+    let place = new.absolute_ebr_lba.0 as u64;
+    let end = ends_at(new);
+    if end_of(e) < end {
+        return Err(Refusal::EBREndsAfterExtendedPartition);
     }
-    if place < behind {
-        return Changed::Refused(Refusal::NO_GAP);
+    if place < end_behind(b.earlier) {
+        return Err(Refusal::NoGap);
     }
     if b.bound < end {
-        return Changed::Refused(Refusal::NO_GAP);
+        return Err(Refusal::NoGap);
     }
     if out.len() < STORES {
-        return Changed::Refused(Refusal::OUTPUT_SHORT);
+        return Err(Refusal::OutputTooShort);
     }
-    crate::push_writer::put_push(out, e, b, new)
+    Ok(put_push(out, e, b, new))
 }

@@ -1,92 +1,46 @@
 // The cases of EBR records.
-use base::Answer;
-use case_show::say::Out;
-use record_ebr::{EBRHeader, Kept, MARK};
+use case_show::line::Line;
+use case_show::show::{Out, Show, answered};
+use record_ebr::{EBRHeader, Kept, MARK, reader, writer};
+use std::io;
 
-// The start of X.
-pub fn code(x: &[u8]) -> [u8; 446] {
-    let mut c = [0u8; 446];
-    for i in 0..446 {
-        c[i] = case_show::lent::byte(x, i);
+// The bytes of X from an index on, and zeros behind its end.
+pub fn part<const N: usize>(x: &[u8], at: usize) -> [u8; N] {
+    let mut part = [0u8; N];
+    for (to, from) in part.iter_mut().zip(x.iter().skip(at)) {
+        *to = *from;
     }
-    c
-}
-
-// The bytes of X behind that.
-fn mark(x: &[u8]) -> [u8; MARK] {
-    let mut m = [0u8; MARK];
-    for i in 0..MARK {
-        m[i] = case_show::lent::byte(x, 446 + i);
-    }
-    m
+    part
 }
 
 // The EBR in the line's words: the partition's entry and the link's. The code is the start of X, the mark what is behind it.
-fn given(l: &[u8], x: &[u8]) -> EBRHeader {
-    let code = code(x);
-    let mark = mark(x);
-    let kept = Kept {
-        bootstrap_code: code,
-        mark: mark,
-    };
-    let one = crate::on_entry::given(l, 1);
-    let two = crate::on_entry::given(l, 11);
+fn given(l: Line<'_>, x: &[u8]) -> EBRHeader {
     EBRHeader {
-        kept: kept,
-        partition_1: one,
-        partition_2: two,
+        kept: Kept {
+            bootstrap_code: part(x, 0),
+            mark: part::<MARK>(x, 446),
+        },
+        partition_1: crate::on_entry::given(l, 1),
+        partition_2: crate::on_entry::given(l, 11),
     }
 }
 
-fn show(out: &mut Out, e: EBRHeader) {
-    let kept = e.kept;
-    case_show::shown::kept(out, kept);
-    let one = e.partition_1;
-    case_show::shown::entry(out, one);
-    let two = e.partition_2;
-    case_show::shown::entry(out, two);
-}
-
-fn read(out: &mut Out, x: &[u8]) {
-    let r = record_ebr::reader::read(x);
-    let answer = r.answer;
-    match answer {
-        Answer::Done => {
-            let e = r.ebr;
-            show(out, e);
+// Answers the line if its command is one of these.
+pub fn run(out: &mut Out, l: Line<'_>, x: &[u8], o: &mut [u8]) -> io::Result<bool> {
+    match l.word(0) {
+        b"ebr_read" => reader::read(x).show(out)?,
+        b"ebr_write" => {
+            let answer = writer::write(given(l, x), o);
+            answered(out, &answer, o)?;
         }
-        Answer::Refused(n) => case_show::say::refused(out, n.number),
+        b"ebr_again" => match reader::read(x) {
+            Ok(e) => {
+                let answer = writer::write(e, o);
+                answered(out, &answer, o)?;
+            }
+            Err(r) => r.show(out)?,
+        },
+        _ => return Ok(false),
     }
-}
-
-fn write(out: &mut Out, e: EBRHeader, o: &mut [u8]) {
-    let answer = record_ebr::writer::write(e, o);
-    case_show::lent::answered(out, answer, o);
-}
-
-// What reading X answers, written.
-fn again(out: &mut Out, x: &[u8], o: &mut [u8]) {
-    let r = record_ebr::reader::read(x);
-    let answer = r.answer;
-    match answer {
-        Answer::Done => {
-            let e = r.ebr;
-            write(out, e, o);
-        }
-        Answer::Refused(n) => case_show::say::refused(out, n.number),
-    }
-}
-
-// Answers the line if its command is in the list.
-pub fn run(out: &mut Out, l: &[u8], x: &[u8], o: &mut [u8]) -> bool {
-    let k = case_show::line::which(l, b"ebr_read ebr_write ebr_again");
-    match k {
-        0 => read(out, x),
-        1 => write(out, given(l, x), o),
-        2 => again(out, x, o),
-        _ => {
-            return false;
-        }
-    }
-    true
+    Ok(true)
 }

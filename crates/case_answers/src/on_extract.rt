@@ -1,69 +1,33 @@
 // The cases of extracts: X is one, or one and a record.
-use base::Answer;
-use case_show::say::Out;
-use extract::{BytePlace, Header};
-use extract_lay::Laid;
+use case_show::line::Line;
+use case_show::show::{Checksum, Out, Show, answered};
+use extract::look_up_record::{look_up, look_up_answer};
+use std::io;
 
-fn check(out: &mut Out, x: &[u8]) {
-    match extract::check(x) {
-        Header::Good(e) => {
-            case_show::say::n32(out, e.sector_size);
-            case_show::say::n32(out, e.disk_size);
-            case_show::say::n64(out, e.count as u64);
+// The record's length and checksum, then the number of what looking up says beside it.
+fn find(out: &mut Out, x: &[u8], lba: u32) -> io::Result<()> {
+    let record = look_up(x, lba);
+    record.len().show(out)?;
+    Checksum(record).show(out)?;
+    let number = match look_up_answer(x, lba) {
+        Ok(()) => 0,
+        Err(r) => r.number(),
+    };
+    number.show(out)
+}
+
+// Answers the line if its command is one of these.
+pub fn run(out: &mut Out, l: Line<'_>, x: &[u8], o: &mut [u8]) -> io::Result<bool> {
+    match l.word(0) {
+        b"extract_check" => extract::check(x).show(out)?,
+        b"extract_find" => find(out, x, l.number(1))?,
+        b"extract_place" => extract::byte_place(l.number(1), l.number(2)).show(out)?,
+        b"extract_lay" => {
+            let (before, record) = case_show::given::halves(l.number(2), x);
+            let answer = extract_lay::over::lay_over(before, l.number(1), record, o);
+            answered(out, &answer, o)?;
         }
-        Header::Refused(r) => case_show::say::refused(out, r.number),
+        _ => return Ok(false),
     }
-}
-
-// The record's length and checksum, then what looking up says beside it.
-fn find(out: &mut Out, x: &[u8], lba: u32) {
-    let record = extract::look_up_record::look_up(x, lba);
-    case_show::say::n64(out, record.len() as u64);
-    case_show::say::n64(out, case_show::lent::checksum(record));
-    match extract::look_up_record::look_up_answer(x, lba) {
-        Answer::Done => case_show::say::n8(out, 0),
-        Answer::Refused(r) => case_show::say::n8(out, r.number),
-    }
-}
-
-fn place(out: &mut Out, size: u32, lba: u32) {
-    match extract::byte_place(size, lba) {
-        BytePlace::At(n) => case_show::say::n64(out, n),
-        BytePlace::Refused(r) => case_show::say::refused(out, r.number),
-    }
-}
-
-fn laid(out: &mut Out, a: Laid, o: &[u8]) {
-    match a {
-        Laid::Length(n) => case_show::say::n64(out, n as u64),
-        Laid::Refused(r) => case_show::say::refused(out, r.number),
-    }
-    case_show::say::n64(out, o.len() as u64);
-    case_show::say::n64(out, case_show::lent::checksum(o));
-}
-
-// The last `n` bytes of X, or all of it, are the record; the extract is what is before.
-fn lay(out: &mut Out, l: &[u8], x: &[u8], n: usize, o: &mut [u8]) {
-    let a = extract_lay::over::lay_over(
-        case_show::lent::before(x, n),
-        case_show::line::n32(l, 1),
-        case_show::lent::last(x, n),
-        o,
-    );
-    laid(out, a, o);
-}
-
-// Answers the line if its command is in the list.
-pub fn run(out: &mut Out, l: &[u8], x: &[u8], o: &mut [u8]) -> bool {
-    let k = case_show::line::which(l, b"extract_check extract_find extract_place extract_lay");
-    match k {
-        0 => check(out, x),
-        1 => find(out, x, case_show::line::n32(l, 1)),
-        2 => place(out, case_show::line::n32(l, 1), case_show::line::n32(l, 2)),
-        3 => lay(out, l, x, case_show::line::size(l, 2), o),
-        _ => {
-            return false;
-        }
-    }
-    true
+    Ok(true)
 }

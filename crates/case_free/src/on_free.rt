@@ -1,92 +1,64 @@
 // Free runs and places. The table is read from X; its alignment, geometry, count and D are the first six words of the line.
-use base::Answer;
-use case_show::say::Out;
+use case_show::line::Line;
+use case_show::show::{Out, Show};
+use std::io;
 use table::MBR;
-use table_free::{FreeAnswer, RUNS, Run};
-use table_place::{Place, Size};
+use table_free::Run;
+use table_place::{places, sizes};
 
 // Start and length of each run.
-pub fn show(out: &mut Out, at: [Run; RUNS], n: usize) {
-    for i in 0..RUNS {
-        if i < n {
-            let r = at[i];
-            case_show::say::n32(out, r.start);
-            case_show::say::n32(out, r.length);
-        }
+pub fn show(out: &mut Out, runs: &[Run]) -> io::Result<()> {
+    for r in runs {
+        r.start.show(out)?;
+        r.length.show(out)?;
     }
+    Ok(())
 }
 
 // How many runs there are, then start and length of each.
-fn free_runs(out: &mut Out, a: FreeAnswer) {
-    let answer = a.answer;
-    match answer {
-        Answer::Done => {
-            let runs = a.runs;
-            let at = runs.at;
-            case_show::say::n64(out, runs.count as u64);
-            show(out, at, runs.count);
+fn free(out: &mut Out, t: MBR) -> io::Result<()> {
+    match table_free::search::find_free_sectors(t) {
+        Ok(found) => {
+            found.count.show(out)?;
+            show(out, &found.at[..found.count])
         }
-        Answer::Refused(n) => case_show::say::refused(out, n.number),
+        Err(r) => r.show(out),
     }
 }
 
-fn place_of(out: &mut Out, p: Place) {
-    match p {
-        Place::Nowhere => case_show::say::text(out, b" none"),
-        Place::At(n) => case_show::say::n32(out, n),
-        Place::Refused(n) => case_show::say::refused(out, n.number),
+fn on_table(out: &mut Out, l: Line<'_>, t: MBR) -> io::Result<bool> {
+    match l.word(0) {
+        b"free" => free(out, t)?,
+        b"first_place" => places::find_first_place(t, l.number(7)).show(out)?,
+        b"last_place" => places::find_last_place(t, l.number(7)).show(out)?,
+        b"best_place" => places::find_optimal_place(t, l.number(7)).show(out)?,
+        b"most" => sizes::get_maximum_partition_size(t).show(out)?,
+        b"most_for" => sizes::get_maximum_partition_size_for(t, l.number(7)).show(out)?,
+        b"free_into" => crate::on_lent::free_into(out, l, t)?,
+        b"update_lent" => crate::on_lent::update_lent(out, l, t)?,
+        _ => return Ok(false),
     }
+    Ok(true)
 }
 
-fn size_of(out: &mut Out, s: Size) {
-    match s {
-        Size::Sectors(n) => case_show::say::n32(out, n),
-        Size::Refused(n) => case_show::say::refused(out, n.number),
+// Answers the line if its command is one of these.
+pub fn run(out: &mut Out, l: Line<'_>, x: &[u8], _o: &mut [u8]) -> io::Result<bool> {
+    match l.word(0) {
+        b"free"
+        | b"first_place"
+        | b"last_place"
+        | b"best_place"
+        | b"most"
+        | b"most_for"
+        | b"free_into"
+        | b"update_lent" => {}
+        _ => return Ok(false),
     }
-}
-
-fn answer(out: &mut Out, k: usize, l: &[u8], t: MBR) {
-    match k {
-        0 => free_runs(out, table_free::search::find_free_sectors(t)),
-        1 => place_of(
-            out,
-            table_place::places::find_first_place(t, case_show::line::n32(l, 7)),
-        ),
-        2 => place_of(
-            out,
-            table_place::places::find_last_place(t, case_show::line::n32(l, 7)),
-        ),
-        3 => place_of(
-            out,
-            table_place::places::find_optimal_place(t, case_show::line::n32(l, 7)),
-        ),
-        4 => size_of(out, table_place::sizes::get_maximum_partition_size(t)),
-        5 => size_of(
-            out,
-            table_place::sizes::get_maximum_partition_size_for(t, case_show::line::size(l, 7)),
-        ),
-        6 => crate::on_lent::free_into(out, l, t),
-        _ => crate::on_lent::update_lent(out, l, t),
-    }
-}
-
-// Answers the line if its command is in the list.
-pub fn run(out: &mut Out, l: &[u8], x: &[u8]) -> bool {
-    let k = case_show::line::which(
-        l,
-        b"free first_place last_place best_place most most_for free_into update_lent",
-    );
-    if 7 < k {
-        return false;
-    }
-    let r = read_table::read_from(x);
-    let said = r.answer;
-    match said {
-        Answer::Done => {
-            let t = case_show::given::table(l, r.table);
-            answer(out, k, l, t);
+    match read_table::read_from(x) {
+        Ok(read) => on_table(out, l, case_show::given::table(l, read)),
+        Err(r) => {
+            r.show(out)?;
+            Ok(true)
         }
-        Answer::Refused(r) => case_show::say::refused(out, r.number),
     }
-    true
 }

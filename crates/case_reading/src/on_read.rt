@@ -1,48 +1,15 @@
 // Reading: X is an extract.
-use base::Answer;
-use case_show::say::Out;
-use read_table::{HeaderRead, ReadAnswer, Want};
+use case_show::line::Line;
+use case_show::show::{Out, Show};
+use std::io;
 
-fn read_table(out: &mut Out, r: ReadAnswer) {
-    let answer = r.answer;
-    match answer {
-        Answer::Done => {
-            let t = r.table;
-            case_show::shown::table(out, t);
-        }
-        Answer::Refused(r) => case_show::say::refused(out, r.number),
+// Answers the line if its command is one of these.
+pub fn run(out: &mut Out, l: Line<'_>, x: &[u8], _o: &mut [u8]) -> io::Result<bool> {
+    match l.word(0) {
+        b"read" => read_table::read_from(x).show(out)?,
+        b"read_header" => read_table::read_header(x).show(out)?,
+        b"wanted" => read_table::wanted(x).show(out)?,
+        _ => return Ok(false),
     }
-}
-
-fn read_header(out: &mut Out, r: HeaderRead) {
-    let answer = r.answer;
-    match answer {
-        Answer::Done => {
-            let h = r.header;
-            case_show::shown::header(out, h);
-        }
-        Answer::Refused(r) => case_show::say::refused(out, r.number),
-    }
-}
-
-fn wanted(out: &mut Out, w: Want) {
-    match w {
-        Want::Nothing => case_show::say::text(out, b" none"),
-        Want::Sector(lba) => case_show::say::n32(out, lba),
-        Want::Refused(r) => case_show::say::refused(out, r.number),
-    }
-}
-
-// Answers the line if its command is in the list.
-pub fn run(out: &mut Out, l: &[u8], x: &[u8]) -> bool {
-    let k = case_show::line::which(l, b"read read_header wanted");
-    match k {
-        0 => read_table(out, read_table::read_from(x)),
-        1 => read_header(out, read_table::read_header(x)),
-        2 => wanted(out, read_table::wanted(x)),
-        _ => {
-            return false;
-        }
-    }
-    true
+    Ok(true)
 }

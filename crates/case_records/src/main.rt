@@ -3,14 +3,7 @@
 #![tactic(auto)]
 
 use std::io;
-use std::io::BufWriter;
 
 fn main(rt: HostRuntime) -> io::Result<()> {
-    let mut text = case_show::lent::text_buffer();
-    let mut x = case_show::lent::large_buffer();
-    let mut o = case_show::lent::large_buffer();
-    let n = case_show::lent::read_full(&mut rt.stdin(), &mut text);
-    let mut out = BufWriter::new(rt.alloc(), rt.stdout())?;
-    case_answers::cases::run(&mut out, &text[..n], &mut x, &mut o);
-    Ok(())
+    case_show::cases::run(&rt, case_answers::run)
 }

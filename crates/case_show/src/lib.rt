@@ -1,11 +1,10 @@
-// What the programs over cases share: words of a line, lent bytes, how a value is written.
+// What the programs over cases share: the words of a line, what its commands work on, how a value is written.
 // Scope: How much each contract must say (the other numbers are run and compared).
 // For the programs `case_…` alone.
 #![tactic(auto)]
 
-pub mod digits;
+pub mod cases;
 pub mod given;
-pub mod lent;
 pub mod line;
-pub mod say;
+pub mod show;
 pub mod shown;

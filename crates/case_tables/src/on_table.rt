@@ -1,210 +1,109 @@
 // Lookup and small changes of a table, and push. The table is read from X; its alignment, geometry, count and D are the
 // first six words of the line.
-use base::Answer;
-use case_show::say::Out;
-use table::{LOGICALS, LogicalPartition, MBR};
-use table_lookup::at_sector::AtSector;
-use table_lookup::{Count, Got, TableAnswer};
-use table_push::{Complete, CylinderSize, PushAnswer, Pushed, Updated};
-use table_remove::Removal;
+use base::Refusal;
+use case_show::line::Line;
+use case_show::show::{Out, Show};
+use record_mbr::MBRHeader;
+use std::io;
+use std::io::Write;
+use table::{LogicalPartition, MBR};
+use table_lookup::at_sector::find_at_sector;
+use table_push::push;
+use table_remove::at_sector::remove_at_sector;
 
-fn got(out: &mut Out, g: Got) {
-    match g {
-        Got::Nothing => case_show::say::text(out, b" none"),
-        Got::Entry(e) => case_show::shown::entry(out, e),
-        Got::Refused(n) => case_show::say::refused(out, n.number),
+fn removed(out: &mut Out, l: Result<LogicalPartition, Refusal>) -> io::Result<()> {
+    if l.is_ok() {
+        write!(out, " done")?;
     }
+    l.show(out)
 }
 
-fn count(out: &mut Out, c: Count) {
-    match c {
-        Count::Is(n) => case_show::say::n64(out, n as u64),
-        Count::Refused(n) => case_show::say::refused(out, n.number),
-    }
+// The logical partition of a place from 0 on, with another geometry, after a refusal as it was.
+fn update(out: &mut Out, p: LogicalPartition, t: &MBR) -> io::Result<()> {
+    let updated = table_push::update_chs(p, t.cylinders, t.heads, t.sectors);
+    updated.map(|_| ()).show(out)?;
+    updated.unwrap_or(p).show(out)
 }
 
-fn spot(out: &mut Out, s: AtSector) {
-    match s {
-        AtSector::Nothing => case_show::say::text(out, b" none"),
-        AtSector::Number(n) => case_show::say::n64(out, n as u64),
-        AtSector::Refused(n) => case_show::say::refused(out, n.number),
-    }
-}
-
-fn complete(out: &mut Out, c: Complete) {
-    match c {
-        Complete::Is(b) => case_show::say::truth(out, b),
-        Complete::Refused(n) => case_show::say::refused(out, n.number),
-    }
-}
-
-fn size(out: &mut Out, s: CylinderSize) {
-    match s {
-        CylinderSize::Is(n) => case_show::say::n32(out, n),
-        CylinderSize::Refused(n) => case_show::say::refused(out, n.number),
-    }
-}
-
-fn said(out: &mut Out, a: Answer) {
-    match a {
-        Answer::Done => case_show::say::text(out, b" done"),
-        Answer::Refused(n) => case_show::say::refused(out, n.number),
-    }
-}
-
-// What the call says, and the table, refused or not.
-fn changed(out: &mut Out, a: TableAnswer) {
-    let answer = a.answer;
-    said(out, answer);
-    let t = a.table;
-    case_show::shown::table(out, t);
-}
-
-fn removed(out: &mut Out, r: Removal) {
-    let answer = r.answer;
-    match answer {
-        Answer::Done => {
-            case_show::say::text(out, b" done");
-            let l = r.removed;
-            case_show::shown::logical(out, l);
+// The command on a table; what changes it writes the table behind the answer, refused or not, and only `push` not after a refusal.
+fn on_table(out: &mut Out, l: Line<'_>, mut t: MBR) -> io::Result<bool> {
+    match l.word(0) {
+        b"get" => table_lookup::get(t, l.number(7)).show(out)?,
+        b"len" => table_lookup::len(t).show(out)?,
+        b"find" => find_at_sector(t, l.number(7)).show(out)?,
+        b"remove" => {
+            removed(out, table_remove::remove(&mut t, l.number(7)))?;
+            t.show(out)?;
         }
-        Answer::Refused(n) => case_show::say::refused(out, n.number),
-    }
-    let t = r.table;
-    case_show::shown::table(out, t);
-}
-
-fn updated(out: &mut Out, u: Updated) {
-    let answer = u.answer;
-    said(out, answer);
-    let l = u.logical;
-    case_show::shown::logical(out, l);
-}
-
-fn nth(ls: [LogicalPartition; LOGICALS], i: usize) -> LogicalPartition {
-    if i < LOGICALS {
-        return ls[i];
-    }
-    LogicalPartition::empty()
-}
-
-// The logical partition of a place from 0 on, with another geometry.
-fn update(out: &mut Out, l: &[u8], t: MBR) {
-    let ls = t.logical_partitions;
-    let p = nth(ls, case_show::line::size(l, 7));
-    updated(
-        out,
-        table_push::update_chs(p, t.cylinders, t.heads, t.sectors),
-    );
-}
-
-// The new partition's number and the table; after a refusal the table is written if `all` says so.
-fn pushed(out: &mut Out, p: Pushed, all: bool) {
-    let answer = p.answer;
-    match answer {
-        PushAnswer::Number(n) => {
-            case_show::say::n64(out, n as u64);
+        b"remove_at" => {
+            remove_at_sector(&mut t, l.number(7)).show(out)?;
+            t.show(out)?;
         }
-        PushAnswer::Refused(n) => {
-            case_show::say::refused(out, n.number);
-            if !all {
-                return;
+        b"check_geometry" => table_push::check_geometry(t).show(out)?,
+        b"cylinder_size" => table_push::get_cylinder_size(t).show(out)?,
+        b"update_chs" => update(out, case_show::given::logical(&t, l.number(7)), &t)?,
+        b"push" => {
+            let number = push(&mut t, l.number(7), l.number(8), l.number(9));
+            number.show(out)?;
+            if number.is_ok() {
+                t.show(out)?;
             }
         }
-    }
-    let t = p.table;
-    case_show::shown::table(out, t);
-}
-
-fn push(out: &mut Out, l: &[u8], t: MBR, all: bool) {
-    pushed(
-        out,
-        table_push::push(
-            t,
-            case_show::line::n8(l, 7),
-            case_show::line::n32(l, 8),
-            case_show::line::n32(l, 9),
-        ),
-        all,
-    );
-}
-
-fn answer(out: &mut Out, k: usize, l: &[u8], t: MBR) {
-    match k {
-        0 => got(out, table_lookup::get(t, case_show::line::size(l, 7))),
-        1 => count(out, table_lookup::len(t)),
-        2 => spot(
-            out,
-            table_lookup::at_sector::find_at_sector(t, case_show::line::n32(l, 7)),
-        ),
-        3 => removed(out, table_remove::remove(t, case_show::line::size(l, 7))),
-        4 => changed(
-            out,
-            table_remove::at_sector::remove_at_sector(t, case_show::line::n32(l, 7)),
-        ),
-        5 => complete(out, table_push::check_geometry(t)),
-        6 => size(out, table_push::get_cylinder_size(t)),
-        7 => update(out, l, t),
-        8 => push(out, l, t, false),
-        _ => push(out, l, t, true),
-    }
-}
-
-// The command on the table that X reads as.
-fn on_read(out: &mut Out, k: usize, l: &[u8], x: &[u8]) {
-    let r = read_table::read_from(x);
-    let said = r.answer;
-    match said {
-        Answer::Done => {
-            let t = case_show::given::table(l, r.table);
-            answer(out, k, l, t);
+        b"push_all" => {
+            push(&mut t, l.number(7), l.number(8), l.number(9)).show(out)?;
+            t.show(out)?;
         }
-        Answer::Refused(r) => case_show::say::refused(out, r.number),
+        _ => return Ok(false),
+    }
+    Ok(true)
+}
+
+// The table that stands for one that is not read.
+fn no_table() -> MBR {
+    MBR {
+        sector_size: 0,
+        header: MBRHeader::new([0; 4]),
+        logical_partitions: [LogicalPartition::empty(); table::LOGICALS],
+        count: 0,
+        align: MBR::DEFAULT_ALIGN,
+        cylinders: 0,
+        heads: 0,
+        sectors: 0,
+        disk_size: 0,
     }
 }
 
-fn new_from(out: &mut Out, l: &[u8], x: &[u8]) {
-    let disk = [
-        case_show::line::n8(l, 1),
-        case_show::line::n8(l, 2),
-        case_show::line::n8(l, 3),
-        case_show::line::n8(l, 4),
-    ];
-    let a = table_new::new_from(x, disk);
-    let answer = a.answer;
-    match answer {
-        Answer::Done => {
-            let t = a.table;
-            case_show::shown::table(out, t);
+// The last bytes of X, as many as the line says, are the second extract; the table is read from what is before, and is
+// empty where that is refused.
+fn update_from(out: &mut Out, l: Line<'_>, x: &[u8]) -> io::Result<()> {
+    let (before, disk) = case_show::given::halves(l.number(7), x);
+    let read = read_table::read_from(before).unwrap_or(no_table());
+    let mut t = case_show::given::table(l, read);
+    table_new::update_from(&mut t, disk).show(out)?;
+    t.show(out)
+}
+
+// Answers the line if its command is one of these.
+pub fn run(out: &mut Out, l: Line<'_>, x: &[u8], _o: &mut [u8]) -> io::Result<bool> {
+    match l.word(0) {
+        b"new_from" => table_new::new_from(x, l.four(1)).show(out)?,
+        b"update_from" => update_from(out, l, x)?,
+        b"get"
+        | b"len"
+        | b"find"
+        | b"remove"
+        | b"remove_at"
+        | b"check_geometry"
+        | b"cylinder_size"
+        | b"update_chs"
+        | b"push"
+        | b"push_all" => {
+            match read_table::read_from(x) {
+                Ok(read) => return on_table(out, l, case_show::given::table(l, read)),
+                Err(r) => r.show(out)?,
+            }
         }
-        Answer::Refused(n) => case_show::say::refused(out, n.number),
+        _ => return Ok(false),
     }
-}
-
-// The last bytes of X, as many as the line says, are the second extract; the table is read from what is before.
-fn update_from(out: &mut Out, l: &[u8], x: &[u8]) {
-    let n = case_show::line::size(l, 7);
-    let r = read_table::read_from(case_show::lent::before(x, n));
-    let t = case_show::given::table(l, r.table);
-    changed(out, table_new::update_from(t, case_show::lent::last(x, n)));
-}
-
-// Answers the line if its command is in the list.
-pub fn run(out: &mut Out, l: &[u8], x: &[u8]) -> bool {
-    let k = case_show::line::which(
-        l,
-        b"get len find remove remove_at check_geometry cylinder_size update_chs push push_all new_from update_from",
-    );
-    if k < 10 {
-        on_read(out, k, l, x);
-        return true;
-    }
-    match k {
-        10 => new_from(out, l, x),
-        11 => update_from(out, l, x),
-        _ => {
-            return false;
-        }
-    }
-    true
+    Ok(true)
 }

@@ -1,83 +1,47 @@
 // Writing a table, or its header alone, over an extract. The last bytes of X, as many as the line says, are the old extract;
 // the table is read from what is before and then edited.
-use base::Answer;
-use case_show::say::Out;
-use extract_lay::Laid;
+use case_show::line::Line;
+use case_show::show::{Out, Show, answered};
+use std::io;
 use table::MBR;
-use write_table::Written;
 
-// The new extract's length, or the refusal; then O's length and checksum.
-fn laid(out: &mut Out, a: Laid, o: &[u8]) {
-    match a {
-        Laid::Length(n) => case_show::say::n64(out, n as u64),
-        Laid::Refused(r) => case_show::say::refused(out, r.number),
+// The answer, O and the table, refused or not.
+fn write_table(out: &mut Out, mut t: MBR, x: &[u8], o: &mut [u8]) -> io::Result<()> {
+    let written = write_table::write_into(&mut t, x, o);
+    answered(out, &written, o)?;
+    t.show(out)
+}
+
+fn write_header(out: &mut Out, t: MBR, x: &[u8], o: &mut [u8]) -> io::Result<()> {
+    let written = write_table::write_header(t.header, x, o);
+    answered(out, &written, o)
+}
+
+// The command on the table that the start of X reads as, as the line edits it.
+fn on_handed<F>(out: &mut Out, l: Line<'_>, x: &[u8], o: &mut [u8], write: F) -> io::Result<()>
+where
+    F: Fn(&mut Out, MBR, &[u8], &mut [u8]) -> io::Result<()>,
+    requires { F.IsAlwaysCallable write }
+{
+    let (before, old) = case_show::given::halves(l.number(7), x);
+    match read_table::read_from(before) {
+        Ok(read) => write(out, crate::edit::handed(l, read), old, o),
+        Err(r) => r.show(out),
     }
-    case_show::say::n64(out, o.len() as u64);
-    case_show::say::n64(out, case_show::lent::checksum(o));
-}
-
-// The answer and the table, refused or not.
-fn written(out: &mut Out, w: Written, o: &[u8]) {
-    let a = w.answer;
-    laid(out, a, o);
-    let t = w.table;
-    case_show::shown::table(out, t);
-}
-
-fn write_table(out: &mut Out, t: MBR, x: &[u8], o: &mut [u8]) {
-    let w = write_table::write_into(t, x, o);
-    written(out, w, o);
-}
-
-fn write_header(out: &mut Out, t: MBR, x: &[u8], o: &mut [u8]) {
-    let h = t.header;
-    let a = write_table::write_header(h, x, o);
-    laid(out, a, o);
 }
 
 // The table that the first bytes of O, so many, read as.
-fn read_o(out: &mut Out, l: &[u8], o: &[u8]) {
-    let r = read_table::read_from(case_show::lent::part(o, case_show::line::size(l, 1)));
-    let said = r.answer;
-    match said {
-        Answer::Done => {
-            let t = r.table;
-            case_show::shown::table(out, t);
-        }
-        Answer::Refused(r) => case_show::say::refused(out, r.number),
-    }
+fn read_o(out: &mut Out, o: &[u8], n: usize) -> io::Result<()> {
+    read_table::read_from(o.get(..n).unwrap_or(o)).show(out)
 }
 
-fn on_handed(out: &mut Out, k: usize, t: MBR, x: &[u8], o: &mut [u8]) {
-    match k {
-        0 => write_table(out, t, x, o),
-        _ => write_header(out, t, x, o),
+// Answers the line if its command is one of these.
+pub fn run(out: &mut Out, l: Line<'_>, x: &[u8], o: &mut [u8]) -> io::Result<bool> {
+    match l.word(0) {
+        b"write_table" => on_handed(out, l, x, o, write_table)?,
+        b"write_header" => on_handed(out, l, x, o, write_header)?,
+        b"read_o" => read_o(out, o, l.number(1))?,
+        _ => return Ok(false),
     }
-}
-
-// The command on the table that the start of X reads as.
-fn on_read(out: &mut Out, k: usize, l: &[u8], x: &[u8], o: &mut [u8]) {
-    let n = case_show::line::size(l, 7);
-    let r = read_table::read_from(case_show::lent::before(x, n));
-    let said = r.answer;
-    match said {
-        Answer::Done => {
-            let t = crate::edit::handed(l, r.table);
-            on_handed(out, k, t, case_show::lent::last(x, n), o);
-        }
-        Answer::Refused(r) => case_show::say::refused(out, r.number),
-    }
-}
-
-// Answers the line if its command is in the list.
-pub fn run(out: &mut Out, l: &[u8], x: &[u8], o: &mut [u8]) -> bool {
-    match case_show::line::which(l, b"write_table write_header read_o") {
-        0 => on_read(out, 0, l, x, o),
-        1 => on_read(out, 1, l, x, o),
-        2 => read_o(out, l, o),
-        _ => {
-            return false;
-        }
-    }
-    true
+    Ok(true)
 }

@@ -1,35 +1,34 @@
 -- What an answer says determines it; of what is met at a sector, with the record that it stands in. Assumes nothing.
-use mathlib.Core.Path.{◌≡◌, refl, sym, ◌∙◌}
+use Rattle.table.specs.declared.DiskLba.{DiskLba}
+use Rattle.table.specs.declared.LinkLba.{LinkLba}
+use Rattle.base.specs.declared.Refusal.{Refusal}
+use mathlib.Core.Path.{◌≡◌, refl, sym, ◌∙◌, ap}
 use mathlib.Core.List.{List}
-use mathlib.Core.Option.{Option}
+use Rattle.std.specs.Prelude.{Option, Some, None, Result, Ok, Err}
 use Prim.Native.Nat.{ℕ}
-use Rattle.base.specs.Said.{Said, refusal_of}
-use Rattle.base.proofs.Readings.{undone-injective, undone-injective-on, from_said, from_option}
+use Rattle.base.specs.Said.{Said}
+use Rattle.base.proofs.Readings.{undone-injective, undone-injective-on, from_said, from_option, refusal_of, number-back}
 use Rattle.record_ebr.specs.declared.EBRHeader.{EBRHeader}
 use Rattle.extract.specs.Extract.{Good}
 use Rattle.extract.proofs.Halves.{lba-unique}
-use Rattle.chain.specs.declared.Reached.{Reached}
-use Rattle.chain.specs.declared.Reached.TheVariants as reached
-use Rattle.chain.specs.declared.Follows.{Follows}
-use Rattle.chain.specs.declared.Follows.TheVariants as follow
 use Rattle.chain.specs.declared.Met.{Met}
 use Rattle.chain.specs.declared.Met.TheVariants.{Refused, Absent, Ebr}
 use Rattle.chain.specs.Walk.{reached_said, follows_said, met_said, lack_said, HeadAt, MetAt}
 
-pub reached-injective : (a b : Reached) → reached_said a ≡ reached_said b → a ≡ b
-reached-injective = undone-injective reached_said (from_option (λ n. reached.At (record { 0 = n })) reached.Beyond) back
+pub reached-injective : (a b : Option DiskLba) → reached_said a ≡ reached_said b → a ≡ b
+reached-injective = undone-injective reached_said (from_option (λ n. Some (record { 0 = n })) None) back
   where
-    back : (a : Reached) → from_option (λ n. reached.At (record { 0 = n })) reached.Beyond (reached_said a) ≡ a
-    back reached.Beyond = refl
-    back (reached.At p) = refl
+    back : (a : Option DiskLba) → from_option (λ n. Some (record { 0 = n })) None (reached_said a) ≡ a
+    back None = refl
+    back (Some p) = refl
 
-pub follows-injective : (a b : Follows) → follows_said a ≡ follows_said b → a ≡ b
-follows-injective = undone-injective follows_said (from_said (from_option (λ n. follow.Link (record { 0 = n })) follow.End) (λ k. follow.Refused (refusal_of k))) back
+pub follows-injective : (a b : Result (Option LinkLba) Refusal) → follows_said a ≡ follows_said b → a ≡ b
+follows-injective = undone-injective follows_said (from_said (from_option (λ n. Ok (Some (record { 0 = n }))) (Ok None)) (λ k. Err (refusal_of k))) back
   where
-    back : (a : Follows) → from_said (from_option (λ n. follow.Link (record { 0 = n })) follow.End) (λ k. follow.Refused (refusal_of k)) (follows_said a) ≡ a
-    back follow.End = refl
-    back (follow.Link r) = refl
-    back (follow.Refused r) = refl
+    back : (a : Result (Option LinkLba) Refusal) → from_said (from_option (λ n. Ok (Some (record { 0 = n }))) (Ok None)) (λ k. Err (refusal_of k)) (follows_said a) ≡ a
+    back (Ok None) = refl
+    back (Ok (Some r)) = refl
+    back (Err r) = ap Err (number-back r)
 
 -- both that is said of what is met
 record Told : Type 0 where
@@ -60,7 +59,7 @@ named-injective : (x : List ℕ) (i a : ℕ) (m n : Met) → Names x i a m → N
 named-injective x i a = undone-injective-on (Names x i a) (told x) (met_from i a) back
   where
     back : (m : Met) → Names x i a m → met_from i a (told x m) ≡ m
-    back (Refused r) e = refl
+    back (Refused r) e = ap Refused (number-back r)
     back (Absent b) e = refl
     back (Ebr h) e = rw (e.0, ← e.1.at, ← e.1.start, ← e.1.link)
 

@@ -1,6 +1,6 @@
 -- Reading a chain, and the row of facts that it amounts to: both directions. Assumes nothing.
 use mathlib.Core.Path.{◌≡◌, refl, ap, sym, ◌∙◌}
-use mathlib.Core.Option.{Option, none, some}
+use Rattle.std.specs.Prelude.{Option, None, Some}
 use mathlib.Core.List.{List, [], ◌∷◌}
 use Prim.Native.Nat.{ℕ, zero, suc, ◌+◌, ◌-◌, ◌^◌, ◌≤◌, ◌<◌}
 use native.Mathlib.Omega.{arith}
@@ -69,11 +69,11 @@ placed_by a k h = refl
 
 -- one step of the chain
 module _ (v : ℕ → Said EBRHeader) (X m rel : ℕ) (k : Link) (h : EBRHeader) where
-  pub chain-stop : follows_in (suc m) X rel h ≡ gives none → chain v X (suc m) rel k h ≡ gives (placed (X + rel) k h ∷ [])
+  pub chain-stop : follows_in (suc m) X rel h ≡ gives None → chain v X (suc m) rel k h ≡ gives (placed (X + rel) k h ∷ [])
   unfolding chain
   chain-stop q = rw q
 
-  pub chain-on : (r : ℕ) → follows_in (suc m) X rel h ≡ gives (some r)
+  pub chain-on : (r : ℕ) → follows_in (suc m) X rel h ≡ gives (Some r)
       → chain v X (suc m) rel k h ≡ join (placed (X + rel) k h) (and_then (v (X + r)) (chain v X m r (link_of h.partition_2)))
   unfolding chain
   chain-on r q = rw q
@@ -122,7 +122,7 @@ row→chain v X (suc m) rel k (l ∷ j ∷ js) r =
     let t : and_then (v (X + (at j - X))) (chain v X m (at j - X) (link_in j)) ≡ gives (j ∷ js) =
     row→chain v X m (at j - X) (link_in j) (j ∷ js) (record { begins = (i, refl); held = r.held.1; plain = r.plain.1; few = omega (arith, r.few) }) in
     rw (held-here v X m rel k l n s e r.begins.1 a)
-    (chain-on v X m rel k h (at j - X) (sym q ∙ ap (λ (y : ℕ). gives (some y)) z.0) ∙ rw (z.1, t, placed-held v X m rel k l n s e r.begins.1 a))
+    (chain-on v X m rel k h (at j - X) (sym q ∙ ap (λ (y : ℕ). gives (Some y)) z.0) ∙ rw (z.1, t, placed-held v X m rel k l n s e r.begins.1 a))
 
 -- the other way
 no-chain : {A : Type 0} (k : ℕ) (ls : List LogicalPartition) → refuses k ≡ gives ls → A
@@ -149,8 +149,8 @@ module _ (w : ℕ → View) (X m rel : ℕ) (k : Link) (b : Body) (t : b.part.st
   unfolding here
   rows-stop e = record {
     begins = (placed_at (X + rel) k b, placed-link (X + rel) k b);
-    held = (here-held stop none e refl, tt);
-    plain = (plain_here none tt, tt);
+    held = (here-held stop None e refl, tt);
+    plain = (plain_here None tt, tt);
     few = omega arith;
   }
 
@@ -161,8 +161,8 @@ module _ (w : ℕ → View) (X m rel : ℕ) (k : Link) (b : Body) (t : b.part.st
       let q : r ≡ at o - X = omega (arith, c.begins.0) in
       record {
         begins = (placed_at (X + rel) k b, placed-link (X + rel) k b);
-        held = (here-held (to r j) (some o) e (rw (← q, c.begins.1)), c.held);
-        plain = (plain_here (some o) (rw placed_at (omega (arith, c.begins.0))), c.plain);
+        held = (here-held (to r j) (Some o) e (rw (← q, c.begins.1)), c.held);
+        plain = (plain_here (Some o) (rw placed_at (omega (arith, c.begins.0))), c.plain);
         few = omega (arith, c.few);
       }
 
@@ -178,19 +178,19 @@ module _ (v : ℕ → Said EBRHeader) (X m rel : ℕ) (k : Link) (h : EBRHeader)
   sees : (n : Next) → next_of h.partition_2 ≡ n → saw v (X + rel) ≡ ebr (body_in h) n
   sees n q = ap viewed e ∙ ap (ebr (body_in h)) q
 
-  after_stop : follows_in (suc m) X rel h ≡ gives none → gives (placed (X + rel) k h ∷ []) ≡ gives ls → Rows (saw v) X (suc m) rel k ls
+  after_stop : follows_in (suc m) X rel h ≡ gives None → gives (placed (X + rel) k h ∷ []) ≡ gives ls → Rows (saw v) X (suc m) rel k ls
   unfolding here
   after_stop q c =
-      let f = follows→facts (suc m) (X + rel) rel p t none q in
+      let f = follows→facts (suc m) (X + rel) rel p t None q in
       let z : placed (X + rel) k h ∷ [] ≡ ls = cc in
       rw (← z, placed_by (X + rel) k h) (rows-stop (saw v) X m rel k (body_in h) f.1 (sees stop (next-stop h.partition_2 f.2)))
 
-  after_on : (r : ℕ) → follows_in (suc m) X rel h ≡ gives (some r) → (s : Said (List LogicalPartition)) → and_then (v (X + r)) (chain v X m r (link_of h.partition_2)) ≡ s
+  after_on : (r : ℕ) → follows_in (suc m) X rel h ≡ gives (Some r) → (s : Said (List LogicalPartition)) → and_then (v (X + r)) (chain v X m r (link_of h.partition_2)) ≡ s
       → join (placed (X + rel) k h) s ≡ gives ls → Rows (saw v) X (suc m) rel k ls
   unfolding here
   after_on r q (refuses j) y c = no-chain j ls c
   after_on r q (gives ms) y c =
-      let f = follows→facts (suc m) (X + rel) rel p t (some r) q in
+      let f = follows→facts (suc m) (X + rel) rel p t (Some r) q in
       let z : placed (X + rel) k h ∷ ms ≡ ls = cc in
       let o : next_of h.partition_2 ≡ to r (link_of h.partition_2) = next-to h.partition_2 (omega (arith, f.2.0, f.2.1)) ∙ ap (λ (y : ℕ). to y (link_of h.partition_2)) f.2.0 in
       rw (← z, placed_by (X + rel) k h)
@@ -200,8 +200,8 @@ module _ (v : ℕ → Said EBRHeader) (X m rel : ℕ) (k : Link) (h : EBRHeader)
       → and_then s (λ o. join (placed (X + rel) k h) (by_link (gives []) (λ r. and_then (v (X + r)) (chain v X m r (link_of h.partition_2))) o)) ≡ gives ls
       → Rows (saw v) X (suc m) rel k ls
   after (refuses j) q c = no-chain j ls c
-  after (gives none) q c = after_stop q c
-  after (gives (some r)) q c = after_on r q (and_then (v (X + r)) (chain v X m r (link_of h.partition_2))) refl c
+  after (gives None) q c = after_stop q c
+  after (gives (Some r)) q c = after_on r q (and_then (v (X + r)) (chain v X m r (link_of h.partition_2))) refl c
 
 pub chain→row : (v : ℕ → Said EBRHeader) (X m rel : ℕ) (k : Link) (ls : List LogicalPartition) → and_then (v (X + rel)) (chain v X m rel k) ≡ gives ls
     → Rows (saw v) X m rel k ls
@@ -230,28 +230,28 @@ walk-zero v X f = ap (λ a. and_then (v a) f) (add-zero X)
 
 pub holds→logicals : (v : ℕ → Said EBRHeader) (o : Option MBRPartitionEntry) (ls : List LogicalPartition) → Holds (saw v) o ls → logicals_of v o ≡ gives ls
 unfolding logicals_of
-holds→logicals v none [] h = refl
-holds→logicals v none (l ∷ ls) h = absurd h
-holds→logicals v (some e) [] h = go (v e.starting_lba) h
+holds→logicals v None [] h = refl
+holds→logicals v None (l ∷ ls) h = absurd h
+holds→logicals v (Some e) [] h = go (v e.starting_lba) h
   where
     go : (s : Said EBRHeader) → Empty (viewed s) → forgiven s (chain v e.starting_lba most 0 (first_link e)) ≡ gives []
     go (gives x) h = absurd h
     go (refuses k) h = refl
-holds→logicals v (some e) (l ∷ ls) h =
+holds→logicals v (Some e) (l ∷ ls) h =
     let X = e.starting_lba in
     let f = chain v X most 0 (first_link e) in
     let p : at l ≡ X = h.begins.0 ∙ add-zero X in
-    let q : viewed (v X) ≡ ebr (body_of l) (leads X (next ls none)) = ap (saw v) (sym p) ∙ h.held.0 in
-    first-held (v X) (body_of l) (leads X (next ls none)) f q ∙ sym (walk-zero v X f) ∙ row→chain v X most 0 (first_link e) (l ∷ ls) h
+    let q : viewed (v X) ≡ ebr (body_of l) (leads X (next ls None)) = ap (saw v) (sym p) ∙ h.held.0 in
+    first-held (v X) (body_of l) (leads X (next ls None)) f q ∙ sym (walk-zero v X f) ∙ row→chain v X most 0 (first_link e) (l ∷ ls) h
 
 pub logicals→holds : (v : ℕ → Said EBRHeader) (o : Option MBRPartitionEntry) (ls : List LogicalPartition) → logicals_of v o ≡ gives ls → Holds (saw v) o ls
 unfolding logicals_of
-logicals→holds v none [] h = tt
-logicals→holds v none (l ∷ ls) h = let z : ◌≡◌ {A = ℕ} 0 1 = cc in absurd (omega arith)
-logicals→holds v (some e) ls h = go ls (v e.starting_lba) refl h
+logicals→holds v None [] h = tt
+logicals→holds v None (l ∷ ls) h = let z : ◌≡◌ {A = ℕ} 0 1 = cc in absurd (omega arith)
+logicals→holds v (Some e) ls h = go ls (v e.starting_lba) refl h
   where
     go : (ls : List LogicalPartition) (s : Said EBRHeader) → v e.starting_lba ≡ s → forgiven s (chain v e.starting_lba most 0 (first_link e)) ≡ gives ls
-        → Holds (saw v) (some e) ls
+        → Holds (saw v) (Some e) ls
     go [] (refuses k) q h = rw q tt
     go (l ∷ ls) (refuses k) q h = let z : ◌≡◌ {A = ℕ} 0 1 = cc in absurd (omega arith)
     go [] (gives x) q h =

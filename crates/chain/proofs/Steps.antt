@@ -1,7 +1,7 @@
 -- The steps of reading a chain, as the code takes them: places and record numbers. Assumes nothing.
 use mathlib.Core.Path.{◌≡◌, refl, sym, ap, ◌∙◌}
 use mathlib.Core.List.{List, [], ◌∷◌}
-use mathlib.Core.Option.{Option, none, some}
+use Rattle.std.specs.Prelude.{Option, None, Some}
 use Prim.Native.Nat.{ℕ, zero, suc, ◌+◌, ◌-◌, ◌^◌, ◌≤◌, ◌<◌}
 use native.Mathlib.Omega.{arith}
 use native.Mathlib.Nat.{add-zero}
@@ -18,7 +18,6 @@ use Rattle.record_ebr.specs.declared.Entries.{Entries}
 use Rattle.record_ebr.specs.Ebr.{ebr_checks, ebr_of, entries_of}
 use Rattle.extract.specs.Disk.{Disk}
 use Rattle.extract.specs.Extract.{Good, count, disk_sectors, lba_at, record_at, record_of, disk_of, blank}
-use Rattle.base.specs.declared.Answer.TheVariants as answers
 use Rattle.extract.proofs.Disk.{size_of, sector-of, record-at}
 use Rattle.extract.proofs.Halves.{found-is, absent-is}
 use Rattle.table.specs.declared.LogicalPartition.{LogicalPartition}
@@ -29,13 +28,17 @@ use Rattle.chain.specs.Walk.{lack_of, ebr_in, HeadAt, before, places, places_fro
 use Rattle.chain.proofs.Decision.{follows→facts}
 use Rattle.chain.proofs.Rows.{chain-stop, chain-on}
 
+-- a record of a good extract is a sector's bytes
+pub record_long : (x : List ℕ) (i : ℕ) → Good x → i < count x → length (record_at x i) ≡ 512
+record_long x i g b = (record-at x g i b).long
+
 -- what stands at a sector
 module _ (x : List ℕ) (a : ℕ) where
   pub open-past : disk_sectors x ≤ a → refuses 2 ≡ view (disk_of x) a
   unfolding view
   open-past h = rw (size_of x, le-ltb a (disk_sectors x) h)
 
-  pub lack-past : disk_sectors x ≤ a → none ≡ lack_of x a
+  pub lack-past : disk_sectors x ≤ a → None ≡ lack_of x a
   lack-past h = rw (le-ltb a (disk_sectors x) h)
 
   -- a sector on the disk with these bytes
@@ -47,7 +50,7 @@ module _ (x : List ℕ) (a : ℕ) where
     pub open-blank : refuses 3 ≡ view (disk_of x) a
     open-blank = open-sector blank h (sector-of x a ∙ absent-is x blank a p l u)
 
-    pub lack-blank : some a ≡ lack_of x a
+    pub lack-blank : Some a ≡ lack_of x a
     lack-blank =
         let z : length (record_of x a) ≡ 0 = ap length (absent-is x [] a p l u) in
         rw (lt-ltb a (disk_sectors x) h, eq-eqb (length (record_of x a)) 0 z)
@@ -56,7 +59,7 @@ module _ (x : List ℕ) (a : ℕ) where
     pub open-number : answer (ebr_checks (record_at x i)) (ebr_of (record_at x i)) ≡ view (disk_of x) a
     open-number = open-sector (record_at x i) h (sector-of x a ∙ found-is x blank g a i b e)
 
-    pub lack-number : none ≡ lack_of x a
+    pub lack-number : None ≡ lack_of x a
     lack-number =
         let l : length (record_of x a) ≡ 512 = ap length (found-is x [] g a i b e) ∙ (record-at x g i b).long in
         rw (lt-ltb a (disk_sectors x) h, ne_eqb (length (record_of x a)) 0 (λ z. omega arith))
@@ -108,17 +111,17 @@ module _ (v : ℕ → Said EBRHeader) (X m rel : ℕ) (h : EBRHeader) where
       go zero q = rw (← q)
       go (suc m) q = rw (← q)
 
-  pub places-end : gives none ≡ follows_in m X rel h → places v X m rel h ≡ before (X + rel) (gives [])
+  pub places-end : gives None ≡ follows_in m X rel h → places v X m rel h ≡ before (X + rel) (gives [])
   unfolding places placed
-  places-end q = go m (follows→facts m (X + rel) rel p t none (sym q)).0 q
+  places-end q = go m (follows→facts m (X + rel) rel p t None (sym q)).0 q
     where
-      go : (m : ℕ) → 0 < m → gives none ≡ follows_in m X rel h → places v X m rel h ≡ before (X + rel) (gives [])
+      go : (m : ℕ) → 0 < m → gives None ≡ follows_in m X rel h → places v X m rel h ≡ before (X + rel) (gives [])
       go zero z q = absurd (omega arith)
       go (suc m) z q = ap places_of (chain-stop v X m rel (first_link no_entry) h (sym q))
 
-  pub places-on : (r : ℕ) → gives (some r) ≡ follows_in m X rel h → places v X m rel h ≡ before (X + rel) (places_from v X (m - 1) r)
+  pub places-on : (r : ℕ) → gives (Some r) ≡ follows_in m X rel h → places v X m rel h ≡ before (X + rel) (places_from v X (m - 1) r)
   unfolding places
-  places-on r q = go m (follows→facts m (X + rel) rel p t (some r) (sym q)).0 q
+  places-on r q = go m (follows→facts m (X + rel) rel p t (Some r) (sym q)).0 q
     where
       k : Link
       k = link_of h.partition_2
@@ -127,7 +130,7 @@ module _ (v : ℕ → Said EBRHeader) (X m rel : ℕ) (h : EBRHeader) where
       from m (gives y) = chain-places v X m r k y
       from m (refuses j) = refl
 
-      go : (m : ℕ) → 0 < m → gives (some r) ≡ follows_in m X rel h → places v X m rel h ≡ before (X + rel) (places_from v X (m - 1) r)
+      go : (m : ℕ) → 0 < m → gives (Some r) ≡ follows_in m X rel h → places v X m rel h ≡ before (X + rel) (places_from v X (m - 1) r)
       go zero z q = absurd (omega arith)
       go (suc m) z q =
           let i : m ≡ suc m - 1 = omega arith in
@@ -142,12 +145,16 @@ from-shut v X m r k q = rw (← q)
 pub from_on : (v : ℕ → Said EBRHeader) (X m r : ℕ) (h : EBRHeader) → gives h ≡ v (X + r) → places_from v X m r ≡ places v X m r h
 from_on v X m r h q = rw (← q)
 
-pub counted_none : (p : ℕ) → record { answer = answers.Done; count = p } ≡ counted p (gives [])
-counted_none p = λ i. record { answer = answers.Done; count = sym (add-zero p) i }
+pub counted_none : (p : ℕ) → gives p ≡ counted p (gives [])
+counted_none p = ap gives (sym (add-zero p))
+
+pub counted-refused : (p k : ℕ) (s : Said (List ℕ)) → refuses k ≡ counted p s → s ≡ refuses k
+counted-refused p k (refuses j) h = cc
+counted-refused p k (gives ps) h = let w : ◌≡◌ {A = ℕ} 0 1 = cc in absurd (omega arith)
 
 -- one more in front
 pub counted-more : (p a : ℕ) (s : Said (List ℕ)) → counted (p + 1) s ≡ counted p (before a s)
-counted-more p a (gives ps) = let z : p + 1 + length ps ≡ p + suc (length ps) = omega arith in λ i. record { answer = (counted p (before a (gives ps))).answer; count = z i }
+counted-more p a (gives ps) = let z : p + 1 + length ps ≡ p + suc (length ps) = omega arith in ap gives z
 counted-more p a (refuses k) = refl
 
 pub noted_more : (x is : List ℕ) (a : ℕ) (h : Head) (s : Said (List ℕ)) → HeadAt x a h → h.start + a < 2 ^ 32 → NotedAll x is s → NotedAll x (h.number ∷ is) (before a s)
@@ -171,10 +178,10 @@ module _ (d : Disk) (x : MBRPartitionEntry) where
   first-at : (s : Said EBRHeader) → view d (x.starting_lba + 0) ≡ s → view d x.starting_lba ≡ s
   first-at s q = ap (view d) (sym (add-zero x.starting_lba)) ∙ q
 
-  pub first-shut : (k : ℕ) → refuses k ≡ view d (x.starting_lba + 0) → places_of (logicals_of (view d) (some x)) ≡ gives []
+  pub first-shut : (k : ℕ) → refuses k ≡ view d (x.starting_lba + 0) → places_of (logicals_of (view d) (Some x)) ≡ gives []
   unfolding logicals_of
   first-shut k q = rw (first-at (refuses k) (sym q))
 
-  pub first_on : (h : EBRHeader) → gives h ≡ view d (x.starting_lba + 0) → places_of (logicals_of (view d) (some x)) ≡ places (view d) x.starting_lba most 0 h
+  pub first_on : (h : EBRHeader) → gives h ≡ view d (x.starting_lba + 0) → places_of (logicals_of (view d) (Some x)) ≡ places (view d) x.starting_lba most 0 h
   unfolding logicals_of
   first_on h q = rw (first-at (gives h) (sym q)) (chain-places (view d) x.starting_lba most 0 (first_link x) h)

@@ -2,7 +2,7 @@
 use mathlib.Core.Path.{◌≡◌, refl}
 use mathlib.Core.List.{◌∷◌}
 use mathlib.Core.Bool.{Bool, true, false}
-use mathlib.Core.Option.{none, some}
+use Rattle.std.specs.Prelude.{None, Some}
 use Prim.Native.Nat.{ℕ, ◌<◌}
 use native.Mathlib.Omega.{arith}
 use lib.Dec.{eqb, ltb}
@@ -67,7 +67,7 @@ pub next→stop : (e : MBRPartitionEntry) → next_of e ≡ stop → e.starting_
 unfolding next_of
 next→stop e h = go (eqb e.starting_lba 0) refl h
   where
-    go : (b : Bool) → eqb e.starting_lba 0 ≡ b → by_link stop (λ r. to r (link_of e)) (pick b none (some e.starting_lba)) ≡ stop → e.starting_lba ≡ 0
+    go : (b : Bool) → eqb e.starting_lba 0 ≡ b → by_link stop (λ r. to r (link_of e)) (pick b None (Some e.starting_lba)) ≡ stop → e.starting_lba ≡ 0
     go true q h = eqb-true e.starting_lba 0 q
     go false q h = let w : ◌≡◌ {A = ℕ} 0 1 = cc in absurd (omega arith)
 
@@ -75,7 +75,7 @@ pub next→to : (e : MBRPartitionEntry) (r : ℕ) (k : Link) → next_of e ≡ t
 unfolding next_of
 next→to e r k h = go (eqb e.starting_lba 0) h
   where
-    go : (b : Bool) → by_link stop (λ y. to y (link_of e)) (pick b none (some e.starting_lba)) ≡ to r k → (e.starting_lba ≡ r) × (link_of e ≡ k)
+    go : (b : Bool) → by_link stop (λ y. to y (link_of e)) (pick b None (Some e.starting_lba)) ≡ to r k → (e.starting_lba ≡ r) × (link_of e ≡ k)
     go true h = let w : ◌≡◌ {A = ℕ} 0 1 = cc in absurd (omega arith)
     go false h =
         let p : e.starting_lba ≡ r = cc in

@@ -1,6 +1,6 @@
 -- A chain is one EBR and what follows it; what follows is an end, or a link and a chain. Assumes nothing.
 use Rattle.std.specs.Prelude.{ℕ, zero, suc, ◌+◌, ◌^◌, List, [], ◌∷◌, eqb, ltb}
-use Rattle.std.proofs.Math.Option.{Option, none, some}
+use Rattle.std.specs.Prelude.{Option, None, Some}
 use Rattle.base.specs.Pick.{pick}
 use Rattle.base.specs.Said.{Said, gives, refuses, and_then}
 use Rattle.base.specs.Checks.{◌!◌, checked, answer}
@@ -9,10 +9,6 @@ use Rattle.record_entry.specs.declared.MBRPartitionEntry.{MBRPartitionEntry}
 use Rattle.record_ebr.specs.declared.EBRHeader.{EBRHeader}
 use Rattle.record_ebr.specs.Ebr.{ebr_checks, ebr_of}
 use Rattle.extract.specs.Disk.{Disk}
-use Rattle.table.specs.declared.MaybeSectors.{MaybeSectors}
-use Rattle.table.specs.declared.MaybeSectors.TheVariants.{Absent, Present}
-use Rattle.table.specs.declared.MaybeChs.{MaybeChs}
-use Rattle.table.specs.declared.MaybeChs.TheVariants.{Absent as NoChs, Present as SomeChs}
 use Rattle.table.specs.declared.LogicalPartition.{LogicalPartition}
 use Rattle.table.specs.Table.{most}
 
@@ -22,17 +18,17 @@ view d a = answer ((2 ! ltb a d.size) ∷ ebr_checks (d.sector a)) (ebr_of (d.se
 
 -- what is known of the way to an EBR: its link's sectors, first and last CHS
 pub record Link : Type 0 where
-  pub sectors : MaybeSectors
+  pub sectors : Option ℕ
   pub first : CHS
-  pub last : MaybeChs
+  pub last : Option CHS
 
 -- to the first EBR: no sectors, no last CHS, the extended entry's first CHS (rule R18)
 abbrev pub first_link : MBRPartitionEntry → Link
-first_link e = record { sectors = Absent; first = e.first_chs; last = NoChs }
+first_link e = record { sectors = None; first = e.first_chs; last = None }
 
 -- to a later EBR: from the link entry (rule R18)
 abbrev pub link_of : MBRPartitionEntry → Link
-link_of e = record { sectors = Present e.sectors; first = e.first_chs; last = SomeChs e.last_chs }
+link_of e = record { sectors = Some e.sectors; first = e.first_chs; last = Some e.last_chs }
 
 -- the entry with another start
 abbrev pub starting_at : ℕ → MBRPartitionEntry → MBRPartitionEntry
@@ -64,19 +60,19 @@ join l s = and_then s (λ ls. gives (l ∷ ls))
 
 -- where a link that starts at t leads: 0 is an end, whatever the link's type
 abbrev pub leads_to : ℕ → Option ℕ
-leads_to t = pick (eqb t 0) none (some t)
+leads_to t = pick (eqb t 0) None (Some t)
 
 -- by where a link leads: to an end, or on to a place
 abbrev pub by_link : {A : Type 0} → A → (ℕ → A) → Option ℕ → A
-by_link end on none = end
-by_link end on (some r) = on r
+by_link end on None = end
+by_link end on (Some r) = on r
 
 -- The decision what follows an EBR at sector a, whose place counted from the extended partition's start is rel, whose partition starts at p and whose link at t;
 -- m is the number of EBRs still allowed. The 25th EBR 6; partition start + sector beyond 32 bits 7; an end; a link not above the current place 5; else the link's place (rules R12 to R15 and R34)
 unfoldable pub follows : ℕ → ℕ → ℕ → ℕ → ℕ → Said (Option ℕ)
 follows m a rel p t =
     checked ((6 ! ltb 0 m) ∷ (7 ! ltb (p + a) (2 ^ 32)) ∷ []) refuses
-    (by_link (gives none) (λ r. answer ((5 ! ltb rel r) ∷ []) (some r)) (leads_to t))
+    (by_link (gives None) (λ r. answer ((5 ! ltb rel r) ∷ []) (Some r)) (leads_to t))
 
 -- what follows the EBR h at X + rel
 abbrev pub follows_in : ℕ → ℕ → ℕ → EBRHeader → Said (Option ℕ)
@@ -96,5 +92,5 @@ forgiven (refuses k) f = gives []
 
 -- the logical partitions of an extended entry, from its start X on (rules R6, R7 and R23)
 unfoldable pub logicals_of : (ℕ → Said EBRHeader) → Option MBRPartitionEntry → Said (List LogicalPartition)
-logicals_of v none = gives []
-logicals_of v (some e) = forgiven (v e.starting_lba) (chain v e.starting_lba most 0 (first_link e))
+logicals_of v None = gives []
+logicals_of v (Some e) = forgiven (v e.starting_lba) (chain v e.starting_lba most 0 (first_link e))

@@ -1,6 +1,6 @@
 -- The facts that reading a chain amounts to: one about each logical partition and the one that follows it. Assumes nothing.
 use Rattle.std.specs.Prelude.{ℕ, ◌+◌, ◌-◌, ◌^◌, ◌≤◌, ◌<◌, List, [], ◌∷◌, ◌≡◌, length}
-use Rattle.std.proofs.Math.Option.{Option, none, some}
+use Rattle.std.specs.Prelude.{Option, None, Some}
 use Rattle.base.specs.Said.{Said, gives, refuses}
 use Rattle.base.specs.Row.{Row}
 use Rattle.record_entry.specs.declared.MBRPartitionEntry.{MBRPartitionEntry}
@@ -59,16 +59,16 @@ body_of l = record { kept = l.kept; part = starting_at (start l - at l) l.partit
 
 -- where the EBR before n leads
 abbrev pub leads : ℕ → Option LogicalPartition → Next
-leads X none = stop
-leads X (some m) = to (at m - X) (link_in m)
+leads X None = stop
+leads X (Some m) = to (at m - X) (link_in m)
 
 -- l's sector says l, and leads to what follows
 abbrev pub Held : (ℕ → View) → ℕ → LogicalPartition → Option LogicalPartition → Type 0
 Held w X l n = w (at l) ≡ ebr (body_of l) (leads X n)
 
 abbrev pub Before : LogicalPartition → Option LogicalPartition → Type 0
-Before l none = Unit {0}
-Before l (some m) = at l < at m
+Before l None = Unit {0}
+Before l (Some m) = at l < at m
 
 pub record Plain (X : ℕ) (l : LogicalPartition) (n : Option LogicalPartition) : Type 0 where
   pub inside : X ≤ at l
@@ -84,8 +84,8 @@ Begins X rel k (l ∷ ls) = (at l ≡ X + rel) × (link_in l ≡ k)
 -- the chain from X + rel on, of at most m EBRs
 pub record Rows (w : ℕ → View) (X m rel : ℕ) (k : Link) (ls : List LogicalPartition) : Type 0 where
   pub begins : Begins X rel k ls
-  pub held : Row (Held w X) ls none
-  pub plain : Row (Plain X) ls none
+  pub held : Row (Held w X) ls None
+  pub plain : Row (Plain X) ls None
   pub few : length ls ≤ m
 
 -- the chain of an extended entry
@@ -99,7 +99,7 @@ Empty (ebr b n) = ⊥
 
 -- the logical partitions of an extended entry
 abbrev pub Holds : (ℕ → View) → Option MBRPartitionEntry → List LogicalPartition → Type 0
-Holds w none [] = Unit {0}
-Holds w none (l ∷ ls) = ⊥
-Holds w (some e) [] = Empty (w e.starting_lba)
-Holds w (some e) (l ∷ ls) = Chained w e (l ∷ ls)
+Holds w None [] = Unit {0}
+Holds w None (l ∷ ls) = ⊥
+Holds w (Some e) [] = Empty (w e.starting_lba)
+Holds w (Some e) (l ∷ ls) = Chained w e (l ∷ ls)

@@ -1,28 +1,14 @@
 -- An EBR as a store: its partition, and the link to what follows. Assumes nothing.
-use Rattle.std.specs.Prelude.{ℕ, ◌-◌}
-use Rattle.std.proofs.Math.Option.{Option}
-use Rattle.record_chs.specs.declared.CHS.{CHS}
+use Rattle.std.specs.Prelude.{ℕ, ◌-◌, Option, unwrap_or}
 use Rattle.record_chs.specs.Chs.{no_chs}
 use Rattle.record_entry.specs.declared.MBRPartitionEntry.{MBRPartitionEntry}
 use Rattle.record_entry.specs.Entry.{no_entry}
 use Rattle.record_ebr.specs.declared.EBRHeader.{EBRHeader}
 use Rattle.record_ebr.specs.Ebr.{ebr_bytes}
 use Rattle.extract.specs.Disk.{Store}
-use Rattle.table.specs.declared.MaybeSectors.{MaybeSectors}
-use Rattle.table.specs.declared.MaybeSectors.TheVariants.{Absent, Present}
-use Rattle.table.specs.declared.MaybeChs.{MaybeChs}
-use Rattle.table.specs.declared.MaybeChs.TheVariants.{Absent as NoChs, Present as SomeChs}
 use Rattle.table.specs.declared.LogicalPartition.{LogicalPartition}
 use Rattle.chain.specs.Facts.{Next, stop, to, at, start, body_of, leads}
 use Rattle.chain.specs.Chain.{starting_at}
-
-abbrev pub sectors_or0 : MaybeSectors → ℕ
-sectors_or0 Absent = 0
-sectors_or0 (Present n) = n
-
-abbrev pub chs_or_no : MaybeChs → CHS
-chs_or_no NoChs = no_chs
-chs_or_no (SomeChs c) = c
 
 -- rule W27: a written link has flag 00 and the extended entry's type; an ending one is 16 zeros
 unfoldable pub link_entry : ℕ → Next → MBRPartitionEntry
@@ -32,9 +18,9 @@ link_entry sys (to r k) =
       boot = 0;
       first_chs = k.first;
       sys = sys;
-      last_chs = chs_or_no k.last;
+      last_chs = unwrap_or k.last no_chs;
       starting_lba = r;
-      sectors = sectors_or0 k.sectors;
+      sectors = unwrap_or k.sectors 0;
     }
 
 -- rule W25: the EBR of l with a link entry

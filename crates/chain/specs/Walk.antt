@@ -1,40 +1,35 @@
 -- What the chain steps carry: the places of EBRs and the numbers of their records, and the partitions made of them. Assumes nothing.
-use Rattle.std.specs.Prelude.{ℕ, ◌+◌, ◌-◌, ◌^◌, ◌<◌, List, [], ◌∷◌, map, Bool, ◌≡◌, eqb, ltb, length, get_or}
-use Rattle.std.proofs.Math.Option.{Option, none, some}
+use Rattle.table.specs.declared.DiskLba.{DiskLba}
+use Rattle.table.specs.declared.LinkLba.{LinkLba}
+use Rattle.base.specs.declared.Refusal.{Refusal}
+use Rattle.std.specs.Prelude.{ℕ, ◌+◌, ◌-◌, ◌^◌, ◌<◌, List, [], ◌∷◌, map, Bool, ◌≡◌, eqb, ltb, length, get_or, Result, Ok, Err}
+use Rattle.std.specs.Prelude.{Option, None, Some}
 use Rattle.base.specs.Pick.{pick}
-use Rattle.base.specs.Said.{Said, gives, refuses, and_then, refusal_of}
+use Rattle.base.specs.Said.{refusal_code, Said, gives, refuses, and_then}
 use Rattle.record_entry.specs.declared.MBRPartitionEntry.{MBRPartitionEntry}
 use Rattle.record_entry.specs.Entry.{entry_at, no_entry}
 use Rattle.record_ebr.specs.declared.EBRHeader.{EBRHeader}
 use Rattle.record_ebr.specs.Ebr.{ebr_of}
 use Rattle.extract.specs.Extract.{count, disk_sectors, lba_at, record_at, record_of}
-use Rattle.base.specs.declared.Answer.{Answer}
-use Rattle.base.specs.declared.Answer.TheVariants as answers
 use Rattle.table.specs.declared.LogicalPartition.{LogicalPartition}
-use Rattle.table.specs.Table.{slots}
 use Rattle.chain.specs.declared.Head.{Head}
 use Rattle.chain.specs.declared.Met.{Met}
 use Rattle.chain.specs.declared.Met.TheVariants.{Refused, Absent, Ebr}
-use Rattle.chain.specs.declared.Reached.{Reached}
-use Rattle.chain.specs.declared.Reached.TheVariants as reached
-use Rattle.chain.specs.declared.Follows.{Follows}
-use Rattle.chain.specs.declared.Follows.TheVariants as follow
-use Rattle.chain.specs.declared.Counted.{Counted}
 use Rattle.chain.specs.Chain.{Link, first_link, link_of, starting_at, placed, chain}
 use Rattle.chain.specs.Facts.{at}
 
 -- a place on a disk of d sectors: none at or past its end
 abbrev pub place_on : ℕ → ℕ → Option ℕ
-place_on d a = pick (ltb a d) (some a) none
+place_on d a = pick (ltb a d) (Some a) None
 
-abbrev pub reached_said : Reached → Option ℕ
-reached_said reached.Beyond = none
-reached_said (reached.At a) = some a.0
+abbrev pub reached_said : Option DiskLba → Option ℕ
+reached_said None = None
+reached_said (Some a) = Some a.0
 
-abbrev pub follows_said : Follows → Said (Option ℕ)
-follows_said follow.End = gives none
-follows_said (follow.Link r) = gives (some r.0)
-follows_said (follow.Refused r) = refuses r.number
+abbrev pub follows_said : Result (Option LinkLba) Refusal → Said (Option ℕ)
+follows_said (Ok None) = gives None
+follows_said (Ok (Some r)) = gives (Some r.0)
+follows_said (Err r) = refuses (refusal_code r)
 
 -- the EBR of a head
 abbrev pub ebr_in : List ℕ → Head → EBRHeader
@@ -42,7 +37,7 @@ ebr_in x h = ebr_of (record_at x h.number)
 
 -- what is met at a sector: a refusal, a sector without a record, which is blank, or the EBR of a record
 abbrev pub met_said : List ℕ → Met → Said EBRHeader
-met_said x (Refused r) = refuses r.number
+met_said x (Refused r) = refuses (refusal_code r)
 met_said x (Absent a) = refuses 3
 met_said x (Ebr h) = gives (ebr_in x h)
 
@@ -52,12 +47,12 @@ absent x a = eqb (length (record_of x a)) 0
 
 -- sector a, if it is on the disk and the extract has no record for it
 abbrev pub lack_of : List ℕ → ℕ → Option ℕ
-lack_of x a = pick (ltb a (disk_sectors x)) (pick (absent x a) (some a) none) none
+lack_of x a = pick (ltb a (disk_sectors x)) (pick (absent x a) (Some a) None) None
 
 abbrev pub lack_said : Met → Option ℕ
-lack_said (Refused r) = none
-lack_said (Absent a) = some a.0
-lack_said (Ebr h) = none
+lack_said (Refused r) = None
+lack_said (Absent a) = Some a.0
+lack_said (Ebr h) = None
 
 -- it is the head of the extract's record for sector a
 pub record HeadAt (x : List ℕ) (a : ℕ) (h : Head) : Type 0 where
@@ -88,10 +83,9 @@ places v X m rel h = places_of (chain v X m rel (first_link no_entry) h)
 abbrev pub places_from : (ℕ → Said EBRHeader) → ℕ → ℕ → ℕ → Said (List ℕ)
 places_from v X m r = and_then (v (X + r)) (places v X m r)
 
--- the number of EBRs, p of them in front of those that are read; a refusal gives none
-abbrev pub counted : ℕ → Said (List ℕ) → Counted
-counted p (gives ps) = record { answer = answers.Done; count = p + length ps }
-counted p (refuses k) = record { answer = answers.Refused (refusal_of k); count = 0 }
+-- the number of EBRs, p of them in front of those that are read
+abbrev pub counted : ℕ → Said (List ℕ) → Said ℕ
+counted p s = and_then s (λ ps. gives (p + length ps))
 
 -- a record number of the extract, of an EBR whose partition's start counted from the disk's fits
 pub record Fit (x : List ℕ) (i : ℕ) : Type 0 where
@@ -108,14 +102,14 @@ abbrev pub NotedAll : List ℕ → List ℕ → Said (List ℕ) → Type 0
 NotedAll x is (gives ps) = Noted x is ps
 NotedAll x is (refuses k) = Unit {0}
 
--- the first m numbers fit
-abbrev pub AllFit : List ℕ → ℕ → List ℕ → Type 0
-AllFit x m is = (j : ℕ) → j < m → Fit x (get_or is j 0)
+-- the numbers all fit
+abbrev pub AllFit : List ℕ → List ℕ → Type 0
+AllFit x is = (j : ℕ) → j < length is → Fit x (get_or is j 0)
 
 -- the link to the first EBR, if there is an extended entry
 abbrev pub first_link_of : Option MBRPartitionEntry → Link
-first_link_of none = first_link no_entry
-first_link_of (some e) = first_link e
+first_link_of None = first_link no_entry
+first_link_of (Some e) = first_link e
 
 -- the entry of the partition of record number i, its start counted from the disk's
 abbrev pub part_in : List ℕ → ℕ → MBRPartitionEntry
@@ -137,13 +131,3 @@ rebuilt x k (i ∷ is) = lifted x k i ∷ rebuilt x (link_at x i) is
 -- the link to number j of them
 abbrev pub link_to : List ℕ → Link → List ℕ → ℕ → Link
 link_to x k is j = pick (eqb j 0) k (link_at x (get_or is (j - 1) 0))
-
--- logical partitions in their slots; a refusal gives none
-pub record Logicals : Type 0 where
-  pub answer : Answer
-  pub logicals : List LogicalPartition
-  pub count : ℕ
-
-abbrev pub told : Said (List LogicalPartition) → Logicals
-told (gives ls) = record { answer = answers.Done; logicals = slots ls; count = length ls }
-told (refuses k) = record { answer = answers.Refused (refusal_of k); logicals = slots []; count = 0 }

@@ -1,6 +1,6 @@
 // Addresses, types and a lone slot, on numbers and lent bytes.
 ghost use Rattle.std.specs.Prelude.{◌≡◌, [], ◌∷◌};
-ghost use Rattle.record_chs.specs.Chs.{exact, lba, aligned, chs, lba_of, is_valid, chs_bytes, chs_of};
+ghost use Rattle.record_chs.specs.Chs.{exact, aligned, chs, lba_of, is_valid, chs_bytes, chs_of};
 ghost use Rattle.abi_address.specs.Chs.{packed_chs};
 ghost use Rattle.abi_word.specs.Packed.{packed, status};
 ghost use Rattle.base.specs.Bytes.{number, little};

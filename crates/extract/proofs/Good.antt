@@ -2,7 +2,7 @@
 use mathlib.Core.Path.{◌≡◌, refl, sym, ap, ◌∙◌}
 use mathlib.Core.List.{List, [], ◌∷◌}
 use mathlib.Core.Bool.{Bool, true, false}
-use mathlib.Core.Option.{Option, none, some}
+use Rattle.std.specs.Prelude.{Option, None, Some, Ok, Err}
 use Prim.Native.Nat.{ℕ, zero, suc, ◌+◌, ◌*◌, ◌≤◌, ◌<◌}
 use native.Mathlib.Omega.{arith}
 use native.Mathlib.Nat.{add-zero, zero-add}
@@ -11,7 +11,7 @@ use lib.ListN.{length, get_or}
 use borrow.Author.Tests.{le-leb, lt-leb, lt-ltb, le-ltb, leb-true, ltb-true, eqb-true}
 use Rattle.base.specs.Pick.{pick}
 use Rattle.base.specs.Bytes.{Bytes}
-use Rattle.base.specs.Said.{gives, refuses}
+use Rattle.base.specs.Said.{refusal_code, answered, gives, refuses}
 use Rattle.base.specs.Checks.{Check, ◌!◌, checked, first-fail, AllHold}
 use Rattle.base.proofs.Bytes.{byte_at}
 use Rattle.base.proofs.Checks.{none-fails, all_hold, hold-left, hold-right, on_fail, checked-fail, checked-append, append-fails, append-holds}
@@ -19,8 +19,7 @@ use Rattle.extract.specs.Extract.{word, sector_size_of, disk_sectors, count, lis
 use Rattle.extract.specs.Rules.{size_ok, word_checks, most_records}
 use Rattle.extract.specs.declared.Extract.{Extract}
 use Rattle.base.specs.declared.Refusal.{Refusal}
-use Rattle.extract.specs.declared.Header.TheVariants as header
-use Rattle.extract.specs.Answers.{header_said, header_of, check_says}
+use Rattle.extract.specs.Answers.{header_of, check_says}
 
 -- the header's rules and the LBAs' rules of an extract
 abbrev pub of_header : List ℕ → List Check
@@ -43,16 +42,16 @@ says-parts x h =
     let c = checked-fail (of_lbas x) refuses (gives (header_of x)) in
     rw e (a ∙ b ∙ ap (on_fail (first-fail (of_header x)) refuses) c)
 
-pub says-header : (x : List ℕ) (k : ℕ) → 24 ≤ length x → first-fail (of_header x) ≡ some k → refuses k ≡ check_says x
+pub says-header : (x : List ℕ) (k : ℕ) → 24 ≤ length x → first-fail (of_header x) ≡ Some k → refuses k ≡ check_says x
 says-header x k h e = sym (says-parts x h ∙ ap (λ o. on_fail o refuses (on_fail (first-fail (of_lbas x)) refuses (gives (header_of x)))) e)
 
-pub says-lbas : (x : List ℕ) (k : ℕ) → 24 ≤ length x → first-fail (of_header x) ≡ none → first-fail (of_lbas x) ≡ some k → refuses k ≡ check_says x
+pub says-lbas : (x : List ℕ) (k : ℕ) → 24 ≤ length x → first-fail (of_header x) ≡ None → first-fail (of_lbas x) ≡ Some k → refuses k ≡ check_says x
 says-lbas x k h e f =
     sym
     (says-parts x h ∙ ap (λ o. on_fail o refuses (on_fail (first-fail (of_lbas x)) refuses (gives (header_of x)))) e
     ∙ ap (λ o. on_fail o refuses (gives (header_of x))) f)
 
-pub says-good : (x : List ℕ) → 24 ≤ length x → first-fail (of_header x) ≡ none → first-fail (of_lbas x) ≡ none → gives (header_of x) ≡ check_says x
+pub says-good : (x : List ℕ) → 24 ≤ length x → first-fail (of_header x) ≡ None → first-fail (of_lbas x) ≡ None → gives (header_of x) ≡ check_says x
 says-good x h e f =
     sym
     (says-parts x h ∙ ap (λ o. on_fail o refuses (on_fail (first-fail (of_lbas x)) refuses (gives (header_of x)))) e
@@ -64,36 +63,36 @@ pub header-words : (x : List ℕ) (a n l r t : ℕ) → a ≡ sector_size_of x �
 header-words x a n l r t e f g h i = rw (e, f, g, h, i)
 
 -- a good header has few records, which the extract holds
-pub header-room : (x : List ℕ) → first-fail (of_header x) ≡ none → (count x ≤ most_records) × (length x ≡ 24 + count x * 516)
+pub header-room : (x : List ℕ) → first-fail (of_header x) ≡ None → (count x ≤ most_records) × (length x ≡ 24 + count x * 516)
 header-room x e =
     let k = none-fails (of_header x) e in
     (leb-true _ _ k.1.0, sym (eqb-true _ _ k.1.1.1.1.1.0) ∙ eqb-true _ _ k.1.1.1.1.0)
 
 -- a good answer, and what it says of the extract
-pub good-told : (x : List ℕ) (e : Extract) → header_said (header.Good e) ≡ check_says x → Bytes x → Good x × (e ≡ header_of x)
+pub good-told : (x : List ℕ) (e : Extract) → answered (Ok e) ≡ check_says x → Bytes x → Good x × (e ≡ header_of x)
 unfolding check_says
 good-told x e h b =
     let f = sym (checked-fail (extract_checks x) refuses (gives (header_of x))) in
     go (first-fail (extract_checks x)) refl (h ∙ sym f)
   where
     go : (o : Option ℕ) → first-fail (extract_checks x) ≡ o → gives e ≡ on_fail o refuses (gives (header_of x)) → Good x × (e ≡ header_of x)
-    go none q r = (record { rules = none-fails (extract_checks x) q; bytes = b }, cc)
-    go (some k) q r = let w : ◌≡◌ {A = ℕ} 0 1 = cc in absurd (omega arith)
+    go None q r = (record { rules = none-fails (extract_checks x) q; bytes = b }, cc)
+    go (Some k) q r = let w : ◌≡◌ {A = ℕ} 0 1 = cc in absurd (omega arith)
 
 -- a refusal, and what it says
-pub bad-told : (x : List ℕ) (r : Refusal) → header_said (header.Refused r) ≡ check_says x → first-fail (extract_checks x) ≡ some r.number
+pub bad-told : (x : List ℕ) (r : Refusal) → answered (Err r) ≡ check_says x → first-fail (extract_checks x) ≡ Some (refusal_code r)
 unfolding check_says
 bad-told x r h =
     let f = sym (checked-fail (extract_checks x) refuses (gives (header_of x))) in
     go (first-fail (extract_checks x)) refl (h ∙ sym f)
   where
-    go : (o : Option ℕ) → first-fail (extract_checks x) ≡ o → refuses r.number ≡ on_fail o refuses (gives (header_of x)) → o ≡ some r.number
-    go none q e = let w : ◌≡◌ {A = ℕ} 0 1 = cc in absurd (omega arith)
-    go (some k) q e = let w : r.number ≡ k = cc in ap some (sym w)
+    go : (o : Option ℕ) → first-fail (extract_checks x) ≡ o → refuses (refusal_code r) ≡ on_fail o refuses (gives (header_of x)) → o ≡ Some (refusal_code r)
+    go None q e = let w : ◌≡◌ {A = ℕ} 0 1 = cc in absurd (omega arith)
+    go (Some k) q e = let w : refusal_code r ≡ k = cc in ap Some (sym w)
 
 -- a lookup by what the check said
 module _ {A : Type 0} (x : List ℕ) (a : ℕ) (deny : ℕ → A) (grant : A) where
-  pub look-bad : (k : ℕ) → first-fail (extract_checks x) ≡ some k → checked (look_checks x a) deny grant ≡ deny k
+  pub look-bad : (k : ℕ) → first-fail (extract_checks x) ≡ Some k → checked (look_checks x a) deny grant ≡ deny k
   unfolding look_checks
   look-bad k e = append-fails (extract_checks x) ((2 ! ltb a (disk_sectors x)) ∷ []) k deny grant e
 

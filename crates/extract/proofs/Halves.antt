@@ -1,4 +1,5 @@
 -- One turn of the search, and what is found. Assumes nothing.
+use Rattle.std.specs.Prelude.{Result, Ok, Err}
 use mathlib.Core.Path.{◌≡◌, refl, sym, ap, ◌∙◌}
 use mathlib.Core.List.{List}
 use Prim.Native.Nat.{ℕ, zero, suc, ◌+◌, ◌*◌, ◌-◌, ◌≤◌, ◌<◌}
@@ -9,8 +10,6 @@ use lib.ListN.{take, drop}
 use borrow.Author.Tests.{eq-eqb, ne_eqb}
 use Rattle.base.specs.Pick.{pick}
 use Rattle.extract.specs.Extract.{count, lba_at, record_at, records_from, records, record_in, Good}
-use Rattle.extract.specs.declared.ListSpot.{ListSpot}
-use Rattle.extract.specs.declared.ListSpot.TheVariants.{Found, Absent}
 use Rattle.extract.specs.ListSpot.{SpotOf}
 use Rattle.extract.proofs.Good.{lba-less}
 
@@ -77,19 +76,19 @@ lba-unique x g i j p q e = one (dec_lt i j) (dec_lt j i)
     one (no h) (no k) = omega arith
 
 -- there is one answer
-pub spot-unique : (x : List ℕ) → Good x → (a : ℕ) (r q : ListSpot) → SpotOf x (count x) a r → SpotOf x (count x) a q → r ≡ q
-spot-unique x g a (Found i) (Found j) p q = ap Found (lba-unique x g i j p.0 q.0 (p.1 ∙ sym q.1))
-spot-unique x g a (Found i) (Absent j) p q = absurd (out (dec_lt i j))
+pub spot-unique : (x : List ℕ) → Good x → (a : ℕ) (r q : Result ℕ ℕ) → SpotOf x (count x) a r → SpotOf x (count x) a q → r ≡ q
+spot-unique x g a (Ok i) (Ok j) p q = ap Ok (lba-unique x g i j p.0 q.0 (p.1 ∙ sym q.1))
+spot-unique x g a (Ok i) (Err j) p q = absurd (out (dec_lt i j))
   where
     out : Dec (i < j) → ⊥
     out (yes h) = omega (arith, p.1, q.1 i h)
     out (no h) = omega (arith, p.1, q.2 i (omega arith) p.0)
-spot-unique x g a (Absent i) (Found j) p q = absurd (out (dec_lt j i))
+spot-unique x g a (Err i) (Ok j) p q = absurd (out (dec_lt j i))
   where
     out : Dec (j < i) → ⊥
     out (yes h) = omega (arith, q.1, p.1 j h)
     out (no h) = omega (arith, q.1, p.2 j (omega arith) q.0)
-spot-unique x g a (Absent i) (Absent j) p q = ap Absent (one (dec_lt i j) (dec_lt j i))
+spot-unique x g a (Err i) (Err j) p q = ap Err (one (dec_lt i j) (dec_lt j i))
   where
     one : Dec (i < j) → Dec (j < i) → i ≡ j
     one (yes h) d = absurd (omega (arith, q.1 i h, p.2 i (omega arith) (omega (arith, q.0))))

@@ -7,14 +7,14 @@ use native.Mathlib.Omega.{arith}
 use native.Mathlib.Numerals.{add-one}
 use lib.Dec.{leb, ltb}
 use borrow.Author.Tests.{le-leb, lt-leb, leb-true, leb-false}
-use mathlib.Core.Option.{Option, none, some}
+use Rattle.std.specs.Prelude.{Option, None, Some}
 use Rattle.base.specs.Pick.{pick}
 use Rattle.base.specs.Checks.{first-fail}
 use Rattle.extract.specs.Extract.{lba_at, lbas_from, ascending, all_below, lba_checks}
 
 -- the refusal of both rules
 abbrev bad : Option ℕ
-bad = some 1
+bad = Some 1
 
 -- numbers of which each is at least b, and each at least one more than the one before it
 unfoldable pub rising : ℕ → List ℕ → Bool
@@ -33,7 +33,7 @@ rising-zero (a ∷ ls) = rw (le-leb 0 a (omega arith)) (ascending-rising a ls)
 
 -- the scan's answer from LBA number i on, where the next may be no less than b
 abbrev pub from : ℕ → ℕ → List ℕ → Option ℕ
-from d b ls = pick (rising b ls) (pick (leb b d) (pick (all_below d ls) none bad) bad) bad
+from d b ls = pick (rising b ls) (pick (leb b d) (pick (all_below d ls) None bad) bad) bad
 
 more : (n i : ℕ) → i < n → n - i ≡ suc (n - (i + 1))
 more n i h = omega arith
@@ -56,7 +56,7 @@ unfolding rising
 scan-fall d b a ls h = rw (lt-leb b a h)
 
 below-turn : (d b a : ℕ) (ls : List ℕ) (t u : Bool) → leb b d ≡ t → leb (a + 1) d ≡ u → b ≤ a
-    → pick t (pick (pick u (all_below d ls) false) none bad) bad ≡ pick u (pick (all_below d ls) none bad) bad
+    → pick t (pick (pick u (all_below d ls) false) None bad) bad ≡ pick u (pick (all_below d ls) None bad) bad
 below-turn d b a ls true true p q h = refl
 below-turn d b a ls true false p q h = refl
 below-turn d b a ls false false p q h = refl
@@ -80,6 +80,6 @@ pub end-past : (x : List ℕ) (d n i b : ℕ) → n ≤ i → d < b → from d b
 unfolding rising
 end-past x d n i b h l = rw (lbas-end x n i h, lt-leb b d l)
 
-pub end-good : (x : List ℕ) (d n i b : ℕ) → n ≤ i → b ≤ d → from d b (lbas_from x i (n - i)) ≡ none
+pub end-good : (x : List ℕ) (d n i b : ℕ) → n ≤ i → b ≤ d → from d b (lbas_from x i (n - i)) ≡ None
 unfolding rising all_below
 end-good x d n i b h l = rw (lbas-end x n i h, le-leb b d l)

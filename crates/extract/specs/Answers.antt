@@ -1,25 +1,11 @@
 -- What each answer of the crate says: a value, or a refusal's number. Assumes nothing.
 use Rattle.std.specs.Prelude.{ℕ, ◌*◌, List, [], ◌∷◌}
-use Rattle.std.proofs.Math.Option.{Option}
-use Rattle.base.specs.Said.{Said, gives, refuses}
+use Rattle.std.specs.Prelude.{Option}
+use Rattle.base.specs.Said.{Said}
 use Rattle.base.specs.Checks.{◌!◌, answer, first-fail}
 use Rattle.extract.specs.declared.Extract.{Extract}
-use Rattle.extract.specs.declared.Header.{Header}
-use Rattle.extract.specs.declared.Header.TheVariants as header
-use Rattle.extract.specs.declared.BytePlace.{BytePlace}
-use Rattle.extract.specs.declared.BytePlace.TheVariants as place
 use Rattle.extract.specs.Extract.{sector_size_of, disk_sectors, count, extract_checks, look_checks}
 use Rattle.extract.specs.Rules.{size_ok}
-
--- `Good e` gives e; `Refused r` is the refusal of its number
-abbrev pub header_said : Header → Said Extract
-header_said (header.Good e) = gives e
-header_said (header.Refused r) = refuses r.number
-
--- `At p` gives p; `Refused r` is the refusal of its number
-abbrev pub byte_place_said : BytePlace → Said ℕ
-byte_place_said (place.At p) = gives p
-byte_place_said (place.Refused r) = refuses r.number
 
 -- the header's sector size, D and record count (rule X1)
 abbrev pub header_of : List ℕ → Extract

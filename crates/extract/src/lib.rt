@@ -10,15 +10,15 @@ pub mod look_up_record;
 pub mod records_out;
 
 ghost use Rattle.std.specs.Prelude.{◌≡◌, ◌+◌, ◌*◌, ◌≤◌, ◌<◌, length};
-ghost use Rattle.base.specs.Said.{refusal};
+ghost use Rattle.base.specs.Said.{answered, refusal};
 ghost use Rattle.extract.specs.Extract.{Good, word, count, lbas_from, lba_at, lba_checks, record_at, record_of};
 ghost use Rattle.base.specs.Bytes.{Bytes};
 ghost use Rattle.base.specs.Checks.{first-fail};
 ghost use Rattle.extract.specs.ListSpot.{SpotOf};
-ghost use Rattle.extract.specs.Answers.{header_said, check_says, byte_place_said, place_says};
+ghost use Rattle.extract.specs.Answers.{check_says, place_says};
 ghost use Rattle.extract.specs.Rules.{most_records};
 
-use base::{Answer, Refusal};
+use base::Refusal;
 
 // The most records of an extract.
 pub const RECORDS: usize = 64;
@@ -34,27 +34,6 @@ pub struct Extract {
     pub count: usize,
 }
 
-// What checking an extract finds.
-#[derive(Clone, Copy)]
-pub enum Header {
-    Good(Extract),
-    Refused(Refusal),
-}
-
-// A place on the disk in bytes.
-#[derive(Clone, Copy)]
-pub enum BytePlace {
-    At(u64),
-    Refused(Refusal),
-}
-
-// Where an LBA stands in the list: at a number, or before the one of a number.
-#[derive(Clone, Copy)]
-pub enum ListSpot {
-    Found(usize),
-    Absent(usize),
-}
-
 // The word at a byte offset of the extract.
 fn word_at(x: &[u8], at: usize) -> u32
     requires { at + 4 ≤ length x.now }
@@ -64,43 +43,43 @@ fn word_at(x: &[u8], at: usize) -> u32
 }
 
 // Where an LBA starts on the disk, in bytes: the LBA shifted by the trailing zeros of the sector size.
-pub fn byte_place(sector_size: u32, lba: u32) -> BytePlace
-    ensures { byte_place_said result ≡ place_says sector_size lba }
+pub fn byte_place(sector_size: u32, lba: u32) -> Result<u64, Refusal>
+    ensures { answered result ≡ place_says sector_size lba }
 {
-    if crate::header_rules::size_ok(sector_size) {
-        BytePlace::At((lba as u64) << u32::trailing_zeros(sector_size))
-    } else {
-        BytePlace::Refused(Refusal::BAD_EXTRACT)
+    if !crate::header_rules::size_ok(sector_size) {
+        return Err(Refusal::BadExtract);
     }
+    Ok((lba as u64) << sector_size.trailing_zeros())
 }
 
 // The rules of the n LBAs: they ascend strictly, and are below the end of the disk. Each is read once.
-fn lba_rules(x: &[u8], n: usize, disk: u32) -> Answer
+fn lba_rules(x: &[u8], n: usize, disk: u32) -> Result<(), Refusal>
     requires { (n ≤ most_records) × (24 + n * 4 ≤ length x.now) }
     ensures { refusal result ≡ first-fail (lba_checks disk (lbas_from x.now 0 n)) }
 {
     let mut next: u64 = 0;
+    // By number: the LBAs are bytes of the extract and no slice of numbers.
     for i in 0..n {
         let lba = word_at(x, 24 + i * 4) as u64;
         if lba < next {
-            return Answer::Refused(Refusal::BAD_EXTRACT);
+            return Err(Refusal::BadExtract);
         }
         next = lba + 1;
     }
     if (disk as u64) < next {
-        return Answer::Refused(Refusal::BAD_EXTRACT);
+        return Err(Refusal::BadExtract);
     }
-    Answer::Done
+    Ok(())
 }
 
 // The rules of an extract, in their order. Each byte of the header and of the LBA list is read once.
-pub fn check(x: &[u8]) -> Header
-    ensures result_value { header_said result ≡ check_says x.now }
+pub fn check(x: &[u8]) -> Result<Extract, Refusal>
+    ensures result_value { answered result ≡ check_says x.now }
     ensures bytes { Bytes x.now }
 {
     let long = x.len();
     if long < 24 {
-        return Header::Refused(Refusal::BAD_EXTRACT);
+        return Err(Refusal::BadExtract);
     }
     let size = word_at(x, 0);
     let disk = word_at(x, 4);
@@ -108,31 +87,28 @@ pub fn check(x: &[u8]) -> Header
     let list = word_at(x, 12) as usize;
     let records = word_at(x, 16) as usize;
     let total = word_at(x, 20) as usize;
-    match crate::header_rules::header_rules(long, size, n, list, records, total) {
-        Answer::Refused(k) => Header::Refused(k),
-        Answer::Done => match lba_rules(x, n, disk) {
-            Answer::Refused(r) => Header::Refused(r),
-            Answer::Done => Header::Good(Extract {
-                sector_size: size,
-                disk_size: disk,
-                count: n,
-            }),
-        },
-    }
+    crate::header_rules::header_rules(long, size, n, list, records, total)?;
+    lba_rules(x, n, disk)?;
+    Ok(Extract {
+        sector_size: size,
+        disk_size: disk,
+        count: n,
+    })
 }
 
 // Where an LBA stands among those of a checked extract. Each turn halves those in question.
-pub fn seek(x: &[u8], n: usize, lba: u32) -> ListSpot
+pub fn seek(x: &[u8], n: usize, lba: u32) -> Result<usize, usize>
     requires { (n ≡ count x.now) × Good x.now }
     ensures { SpotOf x.now n lba result }
 {
     let mut lo: usize = 0;
     let mut hi = n;
+    // By halves: the LBAs are bytes of the extract and no slice of numbers that `binary_search` takes.
     while lo < hi {
         let mid = lo + (hi - lo) / 2;
         let a = word_at(x, 24 + mid * 4);
         if a == lba {
-            return ListSpot::Found(mid);
+            return Ok(mid);
         }
         if a < lba {
             lo = mid + 1;
@@ -140,7 +116,7 @@ pub fn seek(x: &[u8], n: usize, lba: u32) -> ListSpot
             hi = mid;
         }
     }
-    ListSpot::Absent(lo)
+    Err(lo)
 }
 
 // LBA number i of a checked extract.
@@ -168,7 +144,7 @@ pub fn record_of<'a>(x: &'a [u8], n: usize, lba: u32) -> &'a [u8]
     ensures { result.now ≡ record_of x.now lba }
 {
     match seek(x, n, lba) {
-        ListSpot::Absent(_) => &x[0..0],
-        ListSpot::Found(i) => record_at(x, n, i),
+        Err(_) => &x[0..0],
+        Ok(i) => record_at(x, n, i),
     }
 }

@@ -1,4 +1,5 @@
 -- Where the search leads, the record is laid. Assumes nothing.
+use Rattle.std.specs.Prelude.{Ok, Err}
 use mathlib.Core.Path.{◌≡◌, refl, sym, ap, subst, ◌∙◌}
 use mathlib.Core.List.{List, ◌∷◌, ◌++◌}
 use Prim.Native.Nat.{ℕ, zero, suc, ◌+◌, ◌-◌, ◌≤◌, ◌<◌}
@@ -9,7 +10,6 @@ use Rattle.extract.specs.Extract.{count, lba_at, records_from, records, Good}
 use Rattle.extract.specs.Answers.{header_of}
 use Rattle.extract.specs.ListSpot.{SpotOf}
 use Rattle.extract.specs.declared.Extract.{Extract}
-use Rattle.extract.specs.declared.ListSpot.TheVariants.{Found, Absent}
 use Rattle.extract.proofs.Good.{lba-less, good-few, good-long}
 use Rattle.extract_lay.specs.Layover.{laid_over, new_records}
 use Rattle.extract_lay.specs.Cut.{cut, Laying}
@@ -76,12 +76,12 @@ laying x p q a r g h k f w c = record {
 }
 
 module _ (x : List ℕ) (g : Good x) (e : Extract) (t : e ≡ header_of x) (a i : ℕ) (r : List ℕ) (f : Record r) (w : a < 4294967296) where
-  pub laying-found : SpotOf x e.count a (Found i) → Laying x e i (i + 1) a r
+  pub laying-found : SpotOf x e.count a (Ok i) → Laying x e i (i + 1) a r
   laying-found =
-      subst (λ h. SpotOf x h.count a (Found i) → Laying x h i (i + 1) a r) (sym t)
+      subst (λ h. SpotOf x h.count a (Ok i) → Laying x h i (i + 1) a r) (sym t)
       (λ s. laying x i (i + 1) a r g (omega arith) (omega (arith, s.0)) f w (cut-found x g (record { lba = a; bytes = r }) i s.0 s.1))
 
-  pub laying-absent : SpotOf x e.count a (Absent i) → Laying x e i i a r
+  pub laying-absent : SpotOf x e.count a (Err i) → Laying x e i i a r
   laying-absent =
-      subst (λ h. SpotOf x h.count a (Absent i) → Laying x h i i a r) (sym t)
+      subst (λ h. SpotOf x h.count a (Err i) → Laying x h i i a r) (sym t)
       (λ s. laying x i i a r g (omega arith) s.0 f w (cut-absent x (record { lba = a; bytes = r }) i s.0 s.1 s.2))

@@ -1,7 +1,7 @@
 -- Small extracts, computed. Assumes nothing.
 use mathlib.Core.Path.{◌≡◌, refl}
 use mathlib.Core.List.{List, [], ◌∷◌, ◌++◌}
-use mathlib.Core.Option.{some}
+use Rattle.std.specs.Prelude.{Some}
 use Prim.Native.Nat.{ℕ}
 use lib.ListN.{replicate}
 use Rattle.base.specs.Said.{gives, refuses}
@@ -28,7 +28,7 @@ empty-bytes : extract_bytes 512 0 [] ≡ none_at_all
 unfolding none_at_all extract_bytes header_bytes lba_bytes record_bytes
 empty-bytes = refl
 
-empty-lookup : look_says none_at_all 0 ≡ some 2
+empty-lookup : look_says none_at_all 0 ≡ Some 2
 unfolding none_at_all look_says look_checks extract_checks word lbas_from ascending all_below
 empty-lookup = refl
 

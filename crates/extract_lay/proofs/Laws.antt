@@ -1,5 +1,5 @@
 -- What a lay-over makes: a good extract, of the disk with that sector stored. Assumes nothing.
-use mathlib.Core.Path.{◌≡◌, refl, sym, ap, ◌∙◌}
+use mathlib.Core.Path.{◌≡◌, sym, ap, ◌∙◌}
 use mathlib.Core.List.{List, ◌++◌}
 use mathlib.Core.Bool.{true}
 use Prim.Native.Nat.{ℕ, ◌+◌, ◌*◌, ◌≤◌, ◌<◌}
@@ -8,12 +8,10 @@ use lib.Dec.{eqb}
 use lib.ListN.{length, take, drop}
 use lib.Seq.{take-add, take_all}
 use borrow.Author.Tests.{le-leb, eq-eqb}
-use Rattle.base.specs.Said.{refusal_of}
 use Rattle.base.specs.Pick.{pick, among}
 use Rattle.base.specs.Bytes.{Record, bytes_of, little}
 use Rattle.base.specs.Checks.{AllHold}
 use Rattle.base.proofs.Checks.{hold-both}
-use Rattle.base.proofs.Readings.{undone-injective, from_said}
 use Rattle.extract.specs.Disk.{Store, stored}
 use Rattle.extract.specs.Extract.{sector_size_of, disk_sectors, count, list_offset, record_offset, total, lbas, records, record_in, blank, size_ok, ascending, all_below, extract_checks, Good, disk_of}
 use Rattle.extract.proofs.Good.{of_header, of_lbas, good-long, good-offsets, good-size, good-ascending, good-below, word_below}
@@ -21,9 +19,6 @@ use Rattle.extract.proofs.Disk.{same-equal}
 use Rattle.extract_lay.specs.Layover.{lba_bytes, record_bytes, extract_bytes, laid_over, new_records, new_extract}
 use Rattle.extract.specs.Header.{header_bytes}
 use Rattle.extract.specs.Rules.{most_records}
-use Rattle.extract_lay.specs.declared.Laid.{Laid}
-use Rattle.extract_lay.specs.declared.Laid.TheVariants as laid
-use Rattle.extract_lay.specs.Answers.{laid_said}
 use Rattle.extract_lay.proofs.Sorted.{lbas_of, Fit, over-sector, over-union, over-again, over-ascending, over_below}
 use Rattle.extract_lay.proofs.Parts.{word_bytes, lbas-part, records-part, length-records, length-extract, bytes-extract, header-size, header-disk, header-count, header-list, header-records, header-total, records-back, lbas-records}
 use Rattle.extract_lay.proofs.Rules.{fit-new}
@@ -177,11 +172,3 @@ extract-again x g =
     let hb = join x (t (length (records x))) (lba_bytes (records x)) 24 (count x * 4) h b in
     join x (t (length (records x)) ++ lba_bytes (records x)) (record_bytes (records x)) (24 + count x * 4) (count x * 512) hb r
     ∙ take_all (24 + count x * 4 + count x * 512) x (omega arith)
-
--- what an answer says determines it
-pub laid-injective : (p q : Laid) → laid_said p ≡ laid_said q → p ≡ q
-laid-injective = undone-injective laid_said (from_said laid.Length (λ k. laid.Refused (refusal_of k))) back
-  where
-    back : (p : Laid) → from_said laid.Length (λ k. laid.Refused (refusal_of k)) (laid_said p) ≡ p
-    back (laid.Length n) = refl
-    back (laid.Refused r) = refl

@@ -1,7 +1,7 @@
 -- What the refusals of a lay-over lead to, and the new extract from its parts. Assumes nothing.
 use mathlib.Core.Path.{◌≡◌, refl, sym, ap, subst, ◌∙◌}
 use mathlib.Core.List.{List, ◌∷◌, ◌++◌, append_assoc}
-use mathlib.Core.Option.{some}
+use Rattle.std.specs.Prelude.{Some}
 use Prim.Native.Nat.{ℕ, zero, suc, ◌+◌, ◌*◌, ◌-◌, ◌≤◌, ◌<◌}
 use native.Mathlib.Omega.{arith}
 use lib.Dec.{eqb, ltb}
@@ -126,7 +126,7 @@ module _ (x : List ℕ) (e : Extract) (p q a : ℕ) (r : List ℕ) (l : Laying x
 
 -- the refusals before
 module _ {A : Type 0} (x : List ℕ) (a : ℕ) (r : List ℕ) (room : ℕ) (deny : ℕ → A) (grant : A) where
-  pub lay-bad : (k : ℕ) → first-fail (extract_checks x) ≡ some k → checked (lay_checks x a r room) deny grant ≡ deny k
+  pub lay-bad : (k : ℕ) → first-fail (extract_checks x) ≡ Some k → checked (lay_checks x a r room) deny grant ≡ deny k
   unfolding lay_checks
   lay-bad k e = append-fails (extract_checks x) ((1 ! eqb (length r) 512) ∷ (2 ! ltb a (disk_sectors x)) ∷ room_checks x a r room) k deny grant e
 

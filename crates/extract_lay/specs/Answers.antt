@@ -1,16 +1,9 @@
 -- What laying a record over an extract says, and what it leaves in the output. Assumes nothing.
 use Rattle.std.specs.Prelude.{ℕ, List, length}
 use Rattle.base.specs.Put.{put}
-use Rattle.base.specs.Said.{Said, gives, refuses}
+use Rattle.base.specs.Said.{Said}
 use Rattle.base.specs.Checks.{answer, checked}
-use Rattle.extract_lay.specs.declared.Laid.{Laid}
-use Rattle.extract_lay.specs.declared.Laid.TheVariants.{Length, Refused}
 use Rattle.extract_lay.specs.Layover.{new_extract, room_checks, lay_checks}
-
--- `Length n` gives n; `Refused r` is the refusal of its number
-abbrev pub laid_said : Laid → Said ℕ
-laid_said (Length n) = gives n
-laid_said (Refused r) = refuses r.number
 
 -- behind the refusals of room: the new extract's length; the new extract in the output
 abbrev pub room_says : List ℕ → ℕ → List ℕ → ℕ → Said ℕ

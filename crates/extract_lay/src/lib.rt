@@ -6,12 +6,3 @@
 pub mod over;
 pub mod plan;
 pub mod replace;
-
-use base::Refusal;
-
-// What laying a record over an extract says: the new extract's length, or the refusal.
-#[derive(Clone, Copy)]
-pub enum Laid {
-    Length(usize),
-    Refused(Refusal),
-}

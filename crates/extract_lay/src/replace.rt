@@ -1,9 +1,9 @@
 // A record put in the place of others in an extract, into a second buffer. Internal.
 ghost use Rattle.std.specs.Prelude.{◌≡◌, length};
+ghost use Rattle.base.specs.Said.{answered};
 ghost use Rattle.extract_lay.specs.Cut.{Laying};
-ghost use Rattle.extract_lay.specs.Answers.{laid_said, room_says, room_leaves};
+ghost use Rattle.extract_lay.specs.Answers.{room_says, room_leaves};
 
-use crate::Laid;
 use base::Refusal;
 use extract::Extract;
 
@@ -16,20 +16,20 @@ pub fn lay_at(
     q: usize,
     lba: u32,
     sector: &[u8],
-) -> Laid
+) -> Result<usize, Refusal>
     requires { Laying x.now e p q lba sector.now }
-    ensures said { laid_said result ≡ room_says x.now lba sector.now (length out.old) }
+    ensures said { answered result ≡ room_says x.now lba sector.now (length out.old) }
     ensures left { out.new ≡ room_leaves x.now lba sector.now out.old }
 {
     let n = e.count;
     let m = p + 1 + (n - q);
     if extract::RECORDS < m {
-        return Laid::Refused(Refusal::TOO_MANY_RECORDS);
+        return Err(Refusal::TooManyRecords);
     }
     let total = 24 + m * 516;
     if out.len() < total {
-        return Laid::Refused(Refusal::OUTPUT_SHORT);
+        return Err(Refusal::OutputTooShort);
     }
     extract::records_out::put_extract(out, x, e, p, q, lba, sector);
-    Laid::Length(total)
+    Ok(total)
 }

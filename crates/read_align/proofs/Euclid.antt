@@ -2,7 +2,7 @@
 use mathlib.Core.Path.{◌≡◌, refl, sym, ◌∙◌}
 use mathlib.Core.List.{List, [], ◌∷◌}
 use mathlib.Core.Bool.{Bool, true, false, ◌&&◌}
-use mathlib.Core.Option.{some}
+use Rattle.std.specs.Prelude.{Some}
 use Prim.Native.Nat.{ℕ, zero, suc, ◌+◌, ◌%◌, ◌∣◌, ◌≤◌, ◌<◌, min, max}
 use native.Mathlib.Nat.{zero-mod, mod_self, mod-one, mod-eq_of_lt, dvd_refl, dvd-zero, dvd-mod_iff, dvd_antisymm, dvd_trans, mod-eq-zero_of_dvd, dvd_of_mod-eq-zero}
 use native.Mathlib.Omega.{arith}
@@ -78,7 +78,7 @@ none_above n k p h = tried-not n k (λ e. (let m : n % k ≡ n = mod-eq_of_lt h 
 pub one-tried : (n k : ℕ) → (n % k ≡ 0 → ⊥) → k ≡ 1 → ⊥
 one-tried n k h e = h (rw e (mod-one n))
 
-pub divisor-itself : (n : ℕ) → 0 < n → n ≤ greatest_align → divisor_to greatest_align (n ∷ []) ≡ some n
+pub divisor-itself : (n : ℕ) → 0 < n → n ≤ greatest_align → divisor_to greatest_align (n ∷ []) ≡ Some n
 divisor-itself n p h = divisor-from greatest_align n (n ∷ []) h (λ j a b. none_above n j p a) ∙ divisor-hit n (n ∷ []) p (tried n n (mod_self n))
 
 -- starts that a number above them divides are all 0, and every number divides zeros
@@ -116,7 +116,7 @@ unfolding divisor_to
 divisor-same zero g ss same = refl
 divisor-same (suc n) g ss same = rw (same (suc n), divisor-same n g ss same)
 
-pub align-some : (ss : List ℕ) (g k : ℕ) → (length ss ≡ 0 → ⊥) → SameDivisors g ss → 0 < g → divisor_to greatest_align (g ∷ []) ≡ some k → alignment ss ≡ gives k
+pub align-some : (ss : List ℕ) (g k : ℕ) → (length ss ≡ 0 → ⊥) → SameDivisors g ss → 0 < g → divisor_to greatest_align (g ∷ []) ≡ Some k → alignment ss ≡ gives k
 unfolding alignment
 align-some [] g k h same p e = absurd (h refl)
 align-some (s ∷ ss) g k h same p e =

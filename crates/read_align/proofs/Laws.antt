@@ -2,31 +2,19 @@
 use mathlib.Core.Path.{◌≡◌, refl, ap}
 use mathlib.Core.List.{List, [], ◌∷◌, ◌++◌}
 use mathlib.Core.Bool.{Bool, true, false}
-use mathlib.Core.Option.{none, some}
-use Prim.Native.Nat.{ℕ, zero, suc, ◌+◌, ◌-◌, ◌≤◌, ◌<◌}
+use Rattle.std.specs.Prelude.{None, Some}
+use Prim.Native.Nat.{ℕ, zero, suc, ◌-◌, ◌≤◌, ◌<◌}
 use native.Mathlib.Omega.{arith}
 use native.Mathlib.Numerals.{sub-one}
 use native.Mathlib.Decide.{dec_lt}
-use lib.ListN.{length, set}
+use lib.ListN.{length}
 use borrow.Author.Tests.{eq-eqb, ne_eqb}
 use Rattle.base.specs.Pick.{pick}
-use Rattle.base.specs.Said.{gives, refusal_of}
-use Rattle.base.proofs.Readings.{undone-injective, from_said}
+use Rattle.base.specs.Said.{gives}
 use Rattle.record_entry.specs.declared.MBRPartitionEntry.{MBRPartitionEntry}
 use Rattle.record_entry.specs.Entry.{used}
 use Rattle.table.specs.Table.{default_align}
-use Rattle.read_align.specs.declared.Aligned.{Aligned}
-use Rattle.read_align.specs.declared.Aligned.TheVariants.{Align, Refused}
-use Rattle.read_align.specs.declared.Starts.{Starts}
-use Rattle.read_align.specs.Align.{used_starts, with_start, divides_all, largest_start, divisor_to, alignment, aligned_said, Largest}
-
--- what an answer says determines it
-pub aligned-injective : (a b : Aligned) → aligned_said a ≡ aligned_said b → a ≡ b
-aligned-injective = undone-injective aligned_said (from_said Align (λ k. Refused (refusal_of k))) back
-  where
-    back : (a : Aligned) → from_said Align (λ k. Refused (refusal_of k)) (aligned_said a) ≡ a
-    back (Align n) = refl
-    back (Refused r) = refl
+use Rattle.read_align.specs.Align.{used_starts, divides_all, largest_start, divisor_to, alignment, Largest}
 
 -- an entry that is not used adds nothing, a used one its start
 pub starts-unused : (e : MBRPartitionEntry) → e.sys ≡ 0 → used_starts (e ∷ []) ≡ []
@@ -36,14 +24,6 @@ starts-unused e h = rw (eq-eqb _ _ h)
 pub starts-used : (e : MBRPartitionEntry) → (e.sys ≡ 0 → ⊥) → used_starts (e ∷ []) ≡ e.starting_lba ∷ []
 unfolding used_starts
 starts-used e h = rw (ne_eqb _ _ h)
-
-pub with-unused : (s : Starts) (e : MBRPartitionEntry) → e.sys ≡ 0 → s ≡ with_start s e
-unfolding with_start
-with-unused s e h = rw (eq-eqb _ _ h)
-
-pub with-used : (s : Starts) (e : MBRPartitionEntry) → (e.sys ≡ 0 → ⊥) → record { at = set s.at s.count e.starting_lba; count = s.count + 1 } ≡ with_start s e
-unfolding with_start
-with-used s e h = rw (ne_eqb _ _ h)
 
 pub starts-append : (es fs : List MBRPartitionEntry) → used_starts (es ++ fs) ≡ used_starts es ++ used_starts fs
 unfolding used_starts
@@ -56,7 +36,7 @@ starts-append (e ∷ es) fs = go (used e.sys) (starts-append es fs)
     go false ih = ih
 
 -- one turn of the search
-pub divisor-hit : (k : ℕ) (ss : List ℕ) → 0 < k → divides_all k ss ≡ true → divisor_to k ss ≡ some k
+pub divisor-hit : (k : ℕ) (ss : List ℕ) → 0 < k → divides_all k ss ≡ true → divisor_to k ss ≡ Some k
 unfolding divisor_to
 divisor-hit zero ss h e = absurd (omega arith)
 divisor-hit (suc k) ss h e = rw e
@@ -66,17 +46,17 @@ unfolding divisor_to
 divisor-miss zero ss h e = absurd (omega arith)
 divisor-miss (suc k) ss h e = rw (e, sub-one)
 
-pub divisor-none : (k : ℕ) (ss : List ℕ) → k ≡ 0 → divisor_to k ss ≡ none
+pub divisor-none : (k : ℕ) (ss : List ℕ) → k ≡ 0 → divisor_to k ss ≡ None
 unfolding divisor_to
 divisor-none k ss e = rw e
 
 -- the rule: the largest divisor
-pub divisor-rule : (n k : ℕ) (ss : List ℕ) → divisor_to n ss ≡ some k → Largest k n ss
+pub divisor-rule : (n k : ℕ) (ss : List ℕ) → divisor_to n ss ≡ Some k → Largest k n ss
 unfolding divisor_to
 divisor-rule zero k ss h = let w : ◌≡◌ {A = ℕ} 0 1 = cc in absurd (omega arith)
 divisor-rule (suc n) k ss h = go (divides_all (suc n) ss) refl (divisor-rule n k ss) h
   where
-    go : (b : Bool) → divides_all (suc n) ss ≡ b → (divisor_to n ss ≡ some k → Largest k n ss) → pick b (some (suc n)) (divisor_to n ss) ≡ some k → Largest k (suc n) ss
+    go : (b : Bool) → divides_all (suc n) ss ≡ b → (divisor_to n ss ≡ Some k → Largest k n ss) → pick b (Some (suc n)) (divisor_to n ss) ≡ Some k → Largest k (suc n) ss
     go true q ih e =
         let z : suc n ≡ k = cc in
         record { above = omega arith; within = omega arith; divides = rw z at q; least = λ j a b. absurd (omega arith) }

@@ -1,13 +1,10 @@
 -- Alignment: with no used start 2,048, else the largest divisor of all used starts from 1 to min(16,384, largest start); none: 7. Assumes nothing.
-use Rattle.std.specs.Prelude.{ℕ, zero, suc, ◌+◌, ◌%◌, ◌≤◌, ◌<◌, min, max, List, [], ◌∷◌, Bool, true, false, ◌&&◌, ◌≡◌, eqb, take, set, replicate}
-use Rattle.std.proofs.Math.Option.{Option, none, some}
+use Rattle.std.specs.Prelude.{ℕ, zero, suc, ◌+◌, ◌%◌, ◌≤◌, ◌<◌, min, max, List, [], ◌∷◌, Bool, true, false, ◌&&◌, ◌≡◌, eqb}
+use Rattle.std.specs.Prelude.{Option, None, Some}
 use Rattle.base.specs.Pick.{pick}
 use Rattle.base.specs.Said.{Said, gives, refuses}
 use Rattle.record_entry.specs.declared.MBRPartitionEntry.{MBRPartitionEntry}
 use Rattle.record_entry.specs.Entry.{used}
-use Rattle.read_align.specs.declared.Aligned.{Aligned}
-use Rattle.read_align.specs.declared.Aligned.TheVariants.{Align, Refused}
-use Rattle.read_align.specs.declared.Starts.{Starts}
 use Rattle.table.specs.Table.{most, default_align, greatest_align}
 
 -- the starts of the used entries (rule A7)
@@ -27,39 +24,22 @@ largest_start (s ∷ ss) = max s (largest_start ss)
 
 -- the largest number from 1 to n that divides them all (rule A2)
 unfoldable pub divisor_to : ℕ → List ℕ → Option ℕ
-divisor_to zero ss = none
-divisor_to (suc n) ss = pick (divides_all (suc n) ss) (some (suc n)) (divisor_to n ss)
+divisor_to zero ss = None
+divisor_to (suc n) ss = pick (divides_all (suc n) ss) (Some (suc n)) (divisor_to n ss)
 
 -- no such number: 7 (rule A6)
 abbrev pub or_seven : Option ℕ → Said ℕ
-or_seven none = refuses 7
-or_seven (some k) = gives k
+or_seven None = refuses 7
+or_seven (Some k) = gives k
 
 -- a single used start equal to 1 gives 1 by the same rule; all starts zero have no number to try (rule A1)
 unfoldable pub alignment : List ℕ → Said ℕ
 alignment [] = gives default_align
 alignment (s ∷ ss) = or_seven (divisor_to (min greatest_align (largest_start (s ∷ ss))) (s ∷ ss))
 
--- what the answer says
-abbrev pub aligned_said : Aligned → Said ℕ
-aligned_said (Align k) = gives k
-aligned_said (Refused r) = refuses r.number
-
--- the starts collected so far
-abbrev pub starts_in : Starts → List ℕ
-starts_in s = take s.count s.at
-
 -- the most: those of four primary and all logical partitions
 abbrev pub most_starts : ℕ
 most_starts = 4 + most
-
--- none yet
-abbrev pub no_starts : Starts
-no_starts = record { at = replicate most_starts 0; count = 0 }
-
--- an entry's start in the next place, if it is used; every other place as it was
-unfoldable pub with_start : Starts → MBRPartitionEntry → Starts
-with_start s e = pick (used e.sys) (record { at = set s.at s.count e.starting_lba; count = s.count + 1 }) s
 
 -- the rule in other words: k divides them all, and no larger number up to n does
 pub record Largest (k n : ℕ) (ss : List ℕ) : Type 0 where

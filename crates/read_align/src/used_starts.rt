@@ -1,44 +1,45 @@
-// The used starts of a header and of the partitions of a chain, for the alignment.
-ghost use Rattle.std.specs.Prelude.{◌≡◌, ◌+◌, ◌≤◌, length};
-ghost use Rattle.record_mbr.specs.Mbr.{primaries};
+// The used starts of a header and of the partitions of a chain, and their alignment.
+ghost use Rattle.std.specs.Prelude.{◌≡◌, ◌++◌, [], ◌∷◌, ◌+◌, ◌≤◌, ◌<◌, length};
+ghost use Rattle.arrayvec.specs.ArrayVec.{array_vec_len};
+ghost use Rattle.base.specs.Said.{answered};
 ghost use Rattle.extract.specs.Extract.{Good, count};
 ghost use Rattle.table.specs.Table.{most};
 ghost use Rattle.chain.specs.Walk.{AllFit};
-ghost use Rattle.read_align.specs.Align.{used_starts, starts_in, most_starts};
+ghost use Rattle.read_align.specs.Align.{used_starts, alignment, most_starts};
 ghost use Rattle.read_align.specs.Starts.{starts_found};
 
-use crate::Starts;
+use arrayvec::ArrayVec;
+use base::Refusal;
+use record_entry::MBRPartitionEntry;
 use record_mbr::MBRHeader;
 
-// The used starts of the four primary entries.
-fn primary_starts(h: MBRHeader) -> Starts
-    ensures { (starts_in result ≡ used_starts (primaries h)) × (result.count ≤ 4) }
+// The most starts: those of four primary and all logical partitions.
+const STARTS: usize = 4 + table::LOGICALS;
+
+// Adds the entry's start, if it is used.
+fn add(starts: &mut ArrayVec<u32, STARTS>, e: MBRPartitionEntry)
+    requires { array_vec_len starts.old < most_starts }
+    ensures grown { starts.new.items ≡ starts.old.items ++ used_starts (e ∷ []) }
+    ensures long { array_vec_len starts.new ≤ array_vec_len starts.old + 1 }
 {
-    let none = Starts::new();
-    let one = h.partition_1;
-    let first = none.with(one);
-    let two = h.partition_2;
-    let second = first.with(two);
-    let three = h.partition_3;
-    let third = second.with(three);
-    let four = h.partition_4;
-    third.with(four)
+    if e.sys != 0 {
+        starts.push(e.starting_lba);
+    }
 }
 
-// The used starts of the header and of the partitions of m records.
-pub fn starts_of(x: &[u8], n: usize, h: MBRHeader, ebrs: &[usize], m: usize) -> Starts
+// The alignment of the used starts of the header and of the partitions of the records found.
+pub fn alignment_of(x: &[u8], n: usize, h: MBRHeader, found: &[usize]) -> Result<u32, Refusal>
     requires n_value { (n ≡ count x.now) × Good x.now }
-    requires m_le_most { (m ≤ most) × (length ebrs.now ≡ most) × AllFit x.now m ebrs.now }
-    ensures { (starts_in result ≡ starts_found x.now h ebrs.now m) × (result.count ≤ most_starts) }
+    requires found_few { (length found.now ≤ most) × AllFit x.now found.now }
+    ensures { answered result ≡ alignment (starts_found x.now h found.now) }
 {
-    let mut all = primary_starts(h);
-    for j in 0..m {
-        let p = read_chain::logicals::part_at(x, n, ebrs[j]);
-        if p.sys != 0 {
-            let k = all.count;
-            all.at[k] = p.starting_lba;
-            all.count = k + 1;
-        }
+    let mut starts = ArrayVec::new();
+    add(&mut starts, h.partition_1);
+    add(&mut starts, h.partition_2);
+    add(&mut starts, h.partition_3);
+    add(&mut starts, h.partition_4);
+    for i in found {
+        add(&mut starts, read_chain::logicals::part_at(x, n, *i));
     }
-    all
+    crate::find_alignment(&starts)
 }

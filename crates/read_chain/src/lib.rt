@@ -5,37 +5,17 @@
 
 pub mod logicals;
 
-ghost use Rattle.std.specs.Prelude.{◌≡◌, [], ◌+◌, ◌-◌, ◌≤◌, length, drop};
-ghost use Rattle.std.proofs.Math.Option.{some};
-ghost use Rattle.base.specs.Said.{gives, refuses};
+ghost use Rattle.std.specs.Prelude.{◌≡◌, ◌+◌, ◌-◌, ◌≤◌, length, drop, Some};
+ghost use Rattle.base.specs.Said.{answered};
 ghost use Rattle.extract.specs.Extract.{Good, count, disk_sectors, disk_of};
 ghost use Rattle.table.specs.Table.{most};
 ghost use Rattle.chain.specs.Chain.{view, logicals_of};
 ghost use Rattle.chain.specs.Walk.{ebr_in, HeadAt, places, places_from, places_of, counted, NotedAll};
 
-use base::{Answer, Refusal};
-use chain::{Counted, Follows, Head, Met};
+use base::Refusal;
+use chain::{Head, Met};
 use record_entry::MBRPartitionEntry;
 use table::{DiskLba, LOGICALS, LinkLba};
-
-fn refuse(k: Refusal) -> Counted
-    ensures { result ≡ counted 0 (refuses k.number) }
-{
-    Counted {
-        answer: Answer::Refused(k),
-        count: 0,
-    }
-}
-
-fn nothing() -> Counted
-    ensures { result ≡ counted 0 (gives []) }
-{
-    let forgiven = Answer::Done;
-    Counted {
-        answer: forgiven,
-        count: 0,
-    }
-}
 
 // One EBR, already opened, and what follows it: at most `left` EBRs. Their record numbers stand in `found` behind those of the EBRs before.
 #[cycle(ebr_step_link_step)]
@@ -48,30 +28,23 @@ fn ebr_step(
     h: Head,
     left: usize,
     found: &mut [usize],
-) -> Counted
+) -> Result<usize, Refusal>
     requires n_value { (n ≡ count x.now) × Good x.now }
     requires d_value { d ≡ disk_sectors x.now }
     requires head_at { HeadAt x.now (base.0 + rel.0) h }
     requires left_le_most { (left ≤ most) × (length found.old ≡ most) }
-    ensures value { result ≡ counted (most - left) (places (view (disk_of x.now)) base.0 left rel.0 (ebr_in x.now h)) }
+    ensures value { answered result ≡ counted (most - left) (places (view (disk_of x.now)) base.0 left rel.0 (ebr_in x.now h)) }
     ensures noted_all { NotedAll x.now (drop (most - left) found.new) (places (view (disk_of x.now)) base.0 left rel.0 (ebr_in x.now h)) }
 {
-    let number = h.number;
-    let at = h.at;
-    let link = h.link;
-    match chain::what_follows(left, at, rel, h.start, link) {
-        Follows::Refused(k) => refuse(k),
-        Follows::End => {
-            found[LOGICALS - left] = number;
-            Counted {
-                answer: Answer::Done,
-                count: LOGICALS - left + 1,
-            }
+    match chain::what_follows(left, h.at, rel, h.start, h.link)? {
+        None => {
+            found[LOGICALS - left] = h.number;
+            Ok(LOGICALS - left + 1)
         }
-        Follows::Link(next) => {
-            let r = link_step(x, n, d, base, next, left - 1, found);
-            found[LOGICALS - left] = number;
-            r
+        Some(next) => {
+            let count = link_step(x, n, d, base, next, left - 1, found)?;
+            found[LOGICALS - left] = h.number;
+            Ok(count)
         }
     }
 }
@@ -86,16 +59,16 @@ fn link_step(
     link: LinkLba,
     left: usize,
     found: &mut [usize],
-) -> Counted
+) -> Result<usize, Refusal>
     requires n_value { (n ≡ count x.now) × Good x.now }
     requires d_value { d ≡ disk_sectors x.now }
     requires left_le_most { (left ≤ most) × (length found.old ≡ most) }
-    ensures value { result ≡ counted (most - left) (places_from (view (disk_of x.now)) base.0 left link.0) }
+    ensures value { answered result ≡ counted (most - left) (places_from (view (disk_of x.now)) base.0 left link.0) }
     ensures noted_all { NotedAll x.now (drop (most - left) found.new) (places_from (view (disk_of x.now)) base.0 left link.0) }
 {
     match chain::open_at(x, n, d, base, link) {
-        Met::Refused(k) => refuse(k),
-        Met::Absent(_) => refuse(Refusal::SIGNATURE),
+        Met::Refused(k) => Err(k),
+        Met::Absent(_) => Err(Refusal::InvalidSignature),
         Met::Ebr(h) => ebr_step(x, n, d, base, link, h, left, found),
     }
 }
@@ -107,17 +80,16 @@ pub fn read_chain(
     d: u32,
     extended: MBRPartitionEntry,
     found: &mut [usize],
-) -> Counted
+) -> Result<usize, Refusal>
     requires n_value { (n ≡ count x.now) × Good x.now }
     requires d_value { d ≡ disk_sectors x.now }
     requires found_len { length found.old ≡ most }
-    ensures value { result ≡ counted 0 (places_of (logicals_of (view (disk_of x.now)) (some extended))) }
-    ensures noted_all { NotedAll x.now found.new (places_of (logicals_of (view (disk_of x.now)) (some extended))) }
+    ensures value { answered result ≡ counted 0 (places_of (logicals_of (view (disk_of x.now)) (Some extended))) }
+    ensures noted_all { NotedAll x.now found.new (places_of (logicals_of (view (disk_of x.now)) (Some extended))) }
 {
     let base = chain::area_of(extended);
-    match chain::open_at(x, n, d, base, LinkLba(0)) {
-        Met::Refused(_) => nothing(),
-        Met::Absent(_) => nothing(),
-        Met::Ebr(h) => ebr_step(x, n, d, base, LinkLba(0), h, LOGICALS, found),
-    }
+    let Met::Ebr(first) = chain::open_at(x, n, d, base, LinkLba(0)) else {
+        return Ok(0);
+    };
+    ebr_step(x, n, d, base, LinkLba(0), first, LOGICALS, found)
 }

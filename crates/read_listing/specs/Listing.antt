@@ -8,8 +8,6 @@ use Rattle.base.specs.Checks.{Check, ◌!◌}
 use Rattle.read_table.specs.Read.{Table, table_of, read_says}
 use Rattle.read_listing.specs.Words.{first_line, refused_text}
 use Rattle.read_listing.specs.Lines.{entry_lines}
-use Rattle.read_listing.specs.declared.Listed.{Listed}
-use Rattle.read_listing.specs.declared.Listed.TheVariants.{Length, Refused}
 
 -- a table's listing (rule T1)
 unfoldable pub table_text : MBR → List ℕ
@@ -19,11 +17,6 @@ table_text t = first_line t.disk_size t.align t.count ++ entry_lines 1 (primarie
 abbrev pub said_text : Said Table → List ℕ
 said_text (gives t) = table_text (table_of t)
 said_text (refuses k) = refused_text k
-
--- what the answer says: the length of the text
-abbrev pub listing_said : Listed → Said ℕ
-listing_said (Length n) = gives n
-listing_said (Refused r) = refuses r.number
 
 unfoldable pub listing : List ℕ → List ℕ
 listing x = said_text (read_says x)

@@ -11,6 +11,7 @@ use record_mbr::MBRHeader;
 use table::MBR;
 
 // The line of an entry.
+#[tactic(auto, using(crate::proofs::text::Text::ten))]
 fn put_entry(d: &mut [u8], at: usize, n: u32, e: MBRPartitionEntry) -> usize
     requires { at + line_room ≤ length d.old }
     ensures { (result ≡ at + length (entry_line n e)) × (d.new ≡ put d.old at (entry_line n e)) × (result ≤ at + line_room) }
@@ -40,14 +41,10 @@ pub fn put_primaries(d: &mut [u8], at: usize, h: MBRHeader) -> usize
     requires { at + line_room * 4 ≤ length d.old }
     ensures { (result ≡ at + length (entry_lines 1 (primaries h))) × (d.new ≡ put d.old at (entry_lines 1 (primaries h))) × (result ≤ at + line_room * 4) }
 {
-    let one = h.partition_1;
-    let at = put_used(d, at, 1, one);
-    let two = h.partition_2;
-    let at = put_used(d, at, 2, two);
-    let three = h.partition_3;
-    let at = put_used(d, at, 3, three);
-    let four = h.partition_4;
-    put_used(d, at, 4, four)
+    let at = put_used(d, at, 1, h.partition_1);
+    let at = put_used(d, at, 2, h.partition_2);
+    let at = put_used(d, at, 3, h.partition_3);
+    put_used(d, at, 4, h.partition_4)
 }
 
 // The lines of the used logical partitions.
@@ -56,11 +53,8 @@ pub fn put_logicals(d: &mut [u8], at: usize, t: MBR) -> usize
     ensures { (result ≡ at + length (entry_lines 5 (parts (logicals t)))) × (d.new ≡ put d.old at (entry_lines 5 (parts (logicals t)))) }
 {
     let mut end = at;
-    let n = t.count;
-    for i in 0..n {
-        let l = t.logical_partitions[i];
-        let e = l.partition;
-        end = put_used(d, end, 5 + i as u32, e);
+    for (i, l) in t.logical_partitions[..t.count].iter().enumerate() {
+        end = put_used(d, end, 5 + i as u32, l.partition);
     }
     end
 }

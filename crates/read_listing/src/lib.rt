@@ -8,12 +8,13 @@ pub mod phrases;
 pub mod text;
 
 ghost use Rattle.std.specs.Prelude.{◌≡◌, ◌≤◌, ◌<◌, length};
+ghost use Rattle.base.specs.Said.{answered};
 ghost use Rattle.base.specs.Put.{put};
 ghost use Rattle.base.specs.Checks.{checked, answer};
 ghost use Rattle.table.specs.Table.{most};
-ghost use Rattle.read_listing.specs.Listing.{table_text, listing, listing_said, table_list_checks, listing_checks, room};
+ghost use Rattle.read_listing.specs.Listing.{table_text, listing, table_list_checks, listing_checks, room};
 
-use base::{Answer, Refusal};
+use base::Refusal;
 use table::{LOGICALS, MBR};
 
 // The bytes that a line needs.
@@ -22,13 +23,6 @@ pub const LINE: usize = 64;
 // The bytes that a listing needs: a line for each logical partition, and eight more.
 pub const LISTING: usize = LINE * (LOGICALS + 8);
 
-// A text's length, or a refusal.
-#[derive(Clone, Copy)]
-pub enum Listed {
-    Length(usize),
-    Refused(Refusal),
-}
-
 // The text of a table from index 0 on.
 fn put_table(d: &mut [u8], t: MBR) -> usize
     requires { (t.count ≤ most) × (room ≤ length d.old) }
@@ -36,41 +30,35 @@ fn put_table(d: &mut [u8], t: MBR) -> usize
 {
     let n = t.count as u32;
     let at = crate::phrases::put_first(d, t.disk_size, t.align, n);
-    let header = t.header;
-    let at = crate::entry_lines::put_primaries(d, at, header);
+    let at = crate::entry_lines::put_primaries(d, at, t.header);
     crate::entry_lines::put_logicals(d, at, t)
 }
 
 // The listing of a table: 6, 19.
-pub fn list_table(t: MBR, out: &mut [u8]) -> Listed
-    ensures result_value { listing_said result ≡ answer (table_list_checks t (length out.old)) (length (table_text t)) }
+#[tactic(auto, using(base::proofs::Tests::tests))]
+pub fn list_table(t: MBR, out: &mut [u8]) -> Result<usize, Refusal>
+    ensures result_value { answered result ≡ answer (table_list_checks t (length out.old)) (length (table_text t)) }
     ensures out_after { out.new ≡ checked (table_list_checks t (length out.old)) (λ _. out.old) (put out.old 0 (table_text t)) }
 {
-    let n = t.count;
-    if LOGICALS < n {
-        return Listed::Refused(Refusal::TOO_MANY);
+    if LOGICALS < t.count {
+        return Err(Refusal::TooManyLogicals);
     }
     if out.len() < LISTING {
-        return Listed::Refused(Refusal::OUTPUT_SHORT);
+        return Err(Refusal::OutputTooShort);
     }
-    Listed::Length(put_table(out, t))
+    Ok(put_table(out, t))
 }
 
 // The listing of the table that an extract reads as, or its refusal: 19 only.
-pub fn listing(x: &[u8], out: &mut [u8]) -> Listed
-    ensures result_value { listing_said result ≡ answer (listing_checks (length out.old)) (length (listing x.now)) }
+pub fn listing(x: &[u8], out: &mut [u8]) -> Result<usize, Refusal>
+    ensures result_value { answered result ≡ answer (listing_checks (length out.old)) (length (listing x.now)) }
     ensures out_after { out.new ≡ checked (listing_checks (length out.old)) (λ _. out.old) (put out.old 0 (listing x.now)) }
 {
     if out.len() < LISTING {
-        return Listed::Refused(Refusal::OUTPUT_SHORT);
+        return Err(Refusal::OutputTooShort);
     }
-    let read = read_table::read_from(x);
-    let said = read.answer;
-    match said {
-        Answer::Refused(k) => Listed::Length(crate::phrases::put_refused(out, k.number)),
-        Answer::Done => {
-            let t = read.table;
-            Listed::Length(put_table(out, t))
-        }
-    }
+    Ok(match read_table::read_from(x) {
+        Ok(t) => put_table(out, t),
+        Err(k) => crate::phrases::put_refused(out, k.number()),
+    })
 }

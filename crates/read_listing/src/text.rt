@@ -8,7 +8,7 @@ pub fn put_number(d: &mut [u8], at: usize, v: u32) -> usize
     requires { at + length (decimal v) ≤ length d.old }
     ensures { (result ≡ at + length (decimal v)) × (d.new ≡ put d.old at (decimal v)) }
 {
-    let digit = (48 + v % 10) as u8;
+    let digit = b'0' + (v % 10) as u8;
     if v < 10 {
         base::put8(d, at, digit);
         return at + 1;
@@ -18,11 +18,12 @@ pub fn put_number(d: &mut [u8], at: usize, v: u32) -> usize
     next + 1
 }
 
+#[tactic(auto, using(base::proofs::Tests::tests), unfolding(crate::specs::Text::hex_digit))]
 fn hex_digit(d: u8) -> u8
     requires { d < 16 }
     ensures { result ≡ hex_digit d }
 {
-    if d < 10 { 48 + d } else { 55 + d }
+    if d < 10 { b'0' + d } else { b'A' + (d - 10) }
 }
 
 // A space and a byte in two hex digits.
@@ -37,6 +38,7 @@ pub fn put_hex(d: &mut [u8], at: usize, b: u8) -> usize
 }
 
 // A space and a number.
+#[tactic(auto, using(crate::proofs::text::Text::ten))]
 pub fn put_spaced(d: &mut [u8], at: usize, v: u32) -> usize
     requires { at + 11 ≤ length d.old }
     ensures { (result ≡ at + length (spaced (decimal v))) × (d.new ≡ put d.old at (spaced (decimal v))) }

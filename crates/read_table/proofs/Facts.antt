@@ -15,15 +15,17 @@ use Rattle.extract.specs.declared.Extract.{Extract}
 use Rattle.extract.specs.Extract.{disk_of}
 use Rattle.extract.specs.Answers.{check_says}
 use Rattle.table.specs.declared.LogicalPartition.{LogicalPartition}
+use Rattle.table.specs.declared.MBR.{MBR}
 use Rattle.table.specs.Table.{parts, most}
 use Rattle.chain.specs.Chain.{view, logicals_of}
 use Rattle.chain.specs.Facts.{seen}
 use Rattle.chain.proofs.Rows.{holds→logicals, logicals→holds}
 use Rattle.chain.proofs.Slots.{holds-few}
 use Rattle.read_align.specs.Align.{used_starts, alignment}
-use Rattle.read_table.specs.Read.{Table, with_chain, read, read_says, table_of, no_table, table_for}
+use Rattle.read_table.specs.Read.{Table, with_chain, read, read_says, table_of, no_table, table_for, table_read}
 use Rattle.read_header.specs.Header.{header_on}
 use Rattle.read_table.specs.Facts.{Reads}
+use Rattle.read_table.proofs.Says.{read-given}
 
 -- a header that is read: sector 0 is on the disk, its signature and flags are right, and its bytes say it
 pub header→facts : (d : Disk) (h : MBRHeader) → header_on d ≡ gives h → (0 < d.size) × (mbr_of (d.sector 0) ≡ h) × AllHold (header_checks h)
@@ -93,3 +95,6 @@ says-few x = go (check_says x)
     go : (s : Said Extract) → (table_for (and_then s (λ e. read (disk_of x)))).count ≤ most
     go (gives e) = read-few x (read (disk_of x)) refl
     go (refuses k) = none-few k
+
+pub given-few : (x : List ℕ) (t : MBR) → gives t ≡ table_read (read_says x) → t.count ≤ most
+given-few x t h = rw (read-given (read_says x) t h).1 (says-few x)

@@ -1,6 +1,6 @@
 -- Reading looks at no sector but 0 and the chain's places. Assumes nothing.
 use mathlib.Core.Path.{◌≡◌, refl, ap}
-use mathlib.Core.Option.{Option, none, some}
+use Rattle.std.specs.Prelude.{Option, None, Some}
 use mathlib.Core.Bool.{Bool, true, false}
 use mathlib.Core.List.{List, [], ◌∷◌}
 use Prim.Native.Nat.{ℕ, zero, suc, ◌+◌}
@@ -77,13 +77,13 @@ module _ (d e : Disk) (width : d.width ≡ e.width) (size : d.size ≡ e.size) w
       go : ((r : ℕ) (j : Link) → Agree d e (looks r) → on d j r ≡ on e j r) → (s : Said (Option ℕ)) → Agree d e (if_given s (by_link [] looks))
           → and_then s (λ o. join (placed (X + rel) k h) (by_link (gives []) (on d link) o)) ≡ and_then s (λ o. join (placed (X + rel) k h) (by_link (gives []) (on e link) o))
       go ih (refuses j) g = refl
-      go ih (gives none) g = refl
-      go ih (gives (some r)) g = ap (join (placed (X + rel) k h)) (ih r link g)
+      go ih (gives None) g = refl
+      go ih (gives (Some r)) g = ap (join (placed (X + rel) k h)) (ih r link g)
 
   logicals-like : (o : Option MBRPartitionEntry) → Agree d e (chain_looks d o) → logicals_of (view d) o ≡ logicals_of (view e) o
   unfolding chain_looks logicals_of
-  logicals-like none g = refl
-  logicals-like (some x) g = go (view d x.starting_lba) refl
+  logicals-like None g = refl
+  logicals-like (Some x) g = go (view d x.starting_lba) refl
     where
       go : (s : Said EBRHeader) → view d x.starting_lba ≡ s
           → forgiven (view d x.starting_lba) (chain (view d) x.starting_lba most 0 (first_link x))

@@ -1,14 +1,12 @@
 -- From what the parts of reading say to what reading says. Assumes nothing.
 use mathlib.Core.Path.{◌≡◌, refl, sym, ap, ◌∙◌}
-use mathlib.Core.List.{List, ◌++◌, map}
-use mathlib.Core.Option.{Option, none, some}
+use mathlib.Core.List.{List, ◌++◌}
+use Rattle.std.specs.Prelude.{None, Some}
 use Prim.Native.Nat.{ℕ, ◌≤◌}
 use native.Mathlib.Omega.{arith}
 use lib.ListN.{length, take}
 use lib.Seq.{length-take-le}
-use Rattle.base.specs.Said.{Said, gives, refuses, and_then, failure, refusal_of, refusal}
-use Rattle.base.specs.declared.Answer.TheVariants.{Done, Refused}
-use Rattle.table.proofs.Laws.{slots-taken}
+use Rattle.base.specs.Said.{Said, gives, refuses, failure}
 use Rattle.record_entry.specs.declared.MBRPartitionEntry.{MBRPartitionEntry}
 use Rattle.record_mbr.specs.declared.MBRHeader.{MBRHeader}
 use Rattle.record_mbr.specs.Mbr.{primaries, extended_of}
@@ -16,30 +14,28 @@ use Rattle.extract.specs.Disk.{Disk}
 use Rattle.extract.specs.Extract.{disk_of}
 use Rattle.extract.specs.Answers.{check_says, header_of}
 use Rattle.extract.specs.declared.Extract.{Extract}
-use Rattle.base.specs.declared.Refusal.{Refusal}
-use Rattle.base.specs.declared.Answer.TheVariants as answers
 use Rattle.extract.proofs.Disk.{size_of, width_of}
 use Rattle.table.specs.declared.LogicalPartition.{LogicalPartition}
+use Rattle.table.specs.declared.MBR.{MBR}
 use Rattle.table.specs.Table.{parts, slots}
-use Rattle.chain.specs.Chain.{view, logicals_of}
-use Rattle.chain.specs.Walk.{Logicals, first_link_of, part_in, rebuilt, told}
-use Rattle.chain.specs.declared.Counted.{Counted}
-use Rattle.chain.proofs.Slots.{rebuilt-long, rebuilt-parts, read_as}
+use Rattle.chain.specs.Chain.{view, Link, logicals_of}
+use Rattle.chain.specs.Walk.{first_link_of, rebuilt}
+use Rattle.chain.proofs.Slots.{rebuilt-long, rebuilt-parts}
 use Rattle.read_align.specs.Align.{used_starts, alignment}
-use Rattle.read_table.specs.Read.{Table, with_chain, read, read_says, table_of, table_for}
+use Rattle.read_table.specs.Read.{Table, with_chain, read, read_says, table_of, table_read, table_for}
 use Rattle.read_header.specs.Header.{header_on}
-use Rattle.read_header.specs.Answers.{header_told}
-use Rattle.read_table.specs.Answers.{table_told, finished}
 use Rattle.read_align.specs.Starts.{starts_found}
-use Rattle.read_header.specs.declared.HeaderRead.{HeaderRead}
 
-pub table-answer : (s : Said Table) → refusal (table_told s).answer ≡ failure s
-table-answer (gives t) = refl
-table-answer (refuses k) = refl
+-- a table that is read, or a refusal
+pub read-refused : (s : Said Table) (k : ℕ) → refuses k ≡ table_read s → failure s ≡ Some k
+read-refused (gives t) k h = let w : ◌≡◌ {A = ℕ} 0 1 = cc in absurd (omega arith)
+read-refused (refuses j) k h =
+    let e : k ≡ j = cc in
+    ap Some (sym e)
 
-pub table-value : (s : Said Table) → (table_told s).table ≡ table_for s
-table-value (gives t) = refl
-table-value (refuses k) = refl
+pub read-given : (s : Said Table) (t : MBR) → gives t ≡ table_read s → (failure s ≡ None) × (t ≡ table_for s)
+read-given (gives u) t h = (refl, cc)
+read-given (refuses j) t h = let w : ◌≡◌ {A = ℕ} 0 1 = cc in absurd (omega arith)
 
 pub read-bad : (x : List ℕ) (k : ℕ) → refuses k ≡ check_says x → refuses k ≡ read_says x
 unfolding read_says
@@ -50,98 +46,70 @@ unfolding read_says
 read-good x e q = rw (← q)
 
 -- the header is refused, or leads to the chain
-pub head-refused : (d : Disk) (h : HeaderRead) (r : Refusal) → h ≡ header_told (header_on d) → h.answer ≡ answers.Refused r → refuses r.number ≡ read d
+pub head-refused : (d : Disk) (k : ℕ) → refuses k ≡ header_on d → refuses k ≡ read d
 unfolding read
-head-refused d h r e q = go (header_on d) e
-  where
-    go : (s : Said MBRHeader) → h ≡ header_told s → refuses r.number ≡ and_then s (with_chain d)
-    go (gives m) e =
-        let n : none ≡ some r.number = ap refusal (sym (ap (λ (y : HeaderRead). y.answer) e) ∙ q) in
-        let w : ◌≡◌ {A = ℕ} 0 1 = cc in
-        absurd (omega arith)
-    go (refuses k) e =
-        let z : answers.Refused (refusal_of k) ≡ answers.Refused r = sym (ap (λ (y : HeaderRead). y.answer) e) ∙ q in
-        let n : some k ≡ some r.number = ap refusal z in
-        let w : k ≡ r.number = cc in
-        ap refuses (sym w)
+head-refused d k q = rw (← q)
 
-pub head-given : (d : Disk) (h : HeaderRead) → h ≡ header_told (header_on d) → h.answer ≡ answers.Done → with_chain d h.header ≡ read d
+pub head-given : (d : Disk) (h : MBRHeader) → gives h ≡ header_on d → with_chain d h ≡ read d
 unfolding read
-head-given d h e q = go (header_on d) e
-  where
-    go : (s : Said MBRHeader) → h ≡ header_told s → with_chain d h.header ≡ and_then s (with_chain d)
-    go (gives m) e = ap (λ (y : HeaderRead). with_chain d y.header) e
-    go (refuses k) e =
-        let z : answers.Refused (refusal_of k) ≡ answers.Done = sym (ap (λ (y : HeaderRead). y.answer) e) ∙ q in
-        let n : some k ≡ none = ap refusal z in
-        let w : ◌≡◌ {A = ℕ} 0 1 = cc in
-        absurd (omega arith)
-
-last-table : (d : Disk) (h : MBRHeader) (ls : List LogicalPartition) (a : ℕ)
-    → finished d.width d.size h (slots ls) (length ls) (gives a) ≡ table_told (gives (record { width = d.width; size = d.size; header = h; logicals = ls; align = a }))
-unfolding table_of
-last-table d h ls a = refl
+head-given d h q = rw (← q)
 
 -- the chain is refused, or leads to the alignment
-module _ (d : Disk) (h : MBRHeader) (l : Logicals) (e : l ≡ told (logicals_of (view d) (extended_of (primaries h)))) where
-  pub chain-refused : (r : Refusal) → l.answer ≡ answers.Refused r → refuses r.number ≡ with_chain d h
+module _ (d : Disk) (h : MBRHeader) where
+  pub chain-refused : (k : ℕ) → refuses k ≡ logicals_of (view d) (extended_of (primaries h)) → refuses k ≡ with_chain d h
   unfolding with_chain
-  chain-refused r q = go (logicals_of (view d) (extended_of (primaries h))) e
-    where
-      f : List LogicalPartition → Said Table
-      f ls = and_then (alignment (used_starts (primaries h ++ parts ls))) (λ a. gives (record { width = d.width; size = d.size; header = h; logicals = ls; align = a }))
+  chain-refused k q = rw (← q)
 
-      go : (s : Said (List LogicalPartition)) → l ≡ told s → refuses r.number ≡ and_then s f
-      go (gives ls) e =
-          let n : none ≡ some r.number = ap refusal (sym (ap (λ (y : Logicals). y.answer) e) ∙ q) in
-          let w : ◌≡◌ {A = ℕ} 0 1 = cc in
-          absurd (omega arith)
-      go (refuses k) e =
-          let n : some k ≡ some r.number = ap refusal (sym (ap (λ (y : Logicals). y.answer) e) ∙ q) in
-          let w : k ≡ r.number = cc in
-          ap refuses (sym w)
+  module _ (ls : List LogicalPartition) (q : gives ls ≡ logicals_of (view d) (extended_of (primaries h))) where
+    pub align-refused : (k : ℕ) → refuses k ≡ alignment (used_starts (primaries h ++ parts ls)) → refuses k ≡ with_chain d h
+    unfolding with_chain
+    align-refused k a = rw (← q, ← a)
 
-  pub chain-given : l.answer ≡ answers.Done
-      → finished d.width d.size h l.logicals l.count (alignment (used_starts (primaries h ++ parts (take l.count l.logicals)))) ≡ table_told (with_chain d h)
-  unfolding with_chain
-  chain-given q = go (logicals_of (view d) (extended_of (primaries h))) e
-    where
-      f : List LogicalPartition → Said Table
-      f ls = and_then (alignment (used_starts (primaries h ++ parts ls))) (λ a. gives (record { width = d.width; size = d.size; header = h; logicals = ls; align = a }))
+    align-given : (a : ℕ) → gives a ≡ alignment (used_starts (primaries h ++ parts ls))
+        → gives (record { width = d.width; size = d.size; header = h; logicals = ls; align = a }) ≡ with_chain d h
+    unfolding with_chain
+    align-given a e = rw (← q, ← e)
 
-      last : (ls : List LogicalPartition) (s : Said ℕ)
-          → finished d.width d.size h (slots ls) (length ls) s ≡ table_told (and_then s (λ a. gives (record { width = d.width; size = d.size; header = h; logicals = ls; align = a })))
-      last ls (gives a) = last-table d h ls a
-      last ls (refuses k) = refl
+-- the table by value
+abbrev made : ℕ → ℕ → MBRHeader → List LogicalPartition → ℕ → ℕ → MBR
+made w d h ls n a =
+    record {
+      sector_size = w;
+      header = h;
+      logical_partitions = ls;
+      count = n;
+      align = a;
+      cylinders = 0;
+      heads = 0;
+      sectors = 0;
+      disk_size = d;
+    }
 
-      go : (s : Said (List LogicalPartition)) → l ≡ told s
-          → finished d.width d.size h l.logicals l.count (alignment (used_starts (primaries h ++ parts (take l.count l.logicals)))) ≡ table_told (and_then s f)
-      go (refuses k) e =
-          let n : some k ≡ none = ap refusal (sym (ap (λ (y : Logicals). y.answer) e) ∙ q) in
-          let w : ◌≡◌ {A = ℕ} 0 1 = cc in
-          absurd (omega arith)
-      go (gives ls) e =
-          ap (λ (y : Logicals). finished d.width d.size h y.logicals y.count (alignment (used_starts (primaries h ++ parts (take y.count y.logicals))))) e
-          ∙ ap (λ (y : List LogicalPartition). finished d.width d.size h (slots ls) (length ls) (alignment (used_starts (primaries h ++ parts y)))) (slots-taken ls)
-          ∙ last ls (alignment (used_starts (primaries h ++ parts ls)))
+made-of : (d : Disk) (h : MBRHeader) (ls : List LogicalPartition) (a : ℕ)
+    → made d.width d.size h (slots ls) (length ls) a ≡ table_of (record { width = d.width; size = d.size; header = h; logicals = ls; align = a })
+unfolding table_of
+made-of d h ls a = refl
 
--- the entries of the partitions in their slots
-parts-found : (x : List ℕ) (o : Option MBRPartitionEntry) (is : List ℕ) (m : ℕ) → m ≤ length is → map (part_in x) (take m is) ≡ parts (take m (slots (take m (rebuilt x (first_link_of o) is))))
-parts-found x o is m h =
-    let L = take m (rebuilt x (first_link_of o) is) in
-    let n : length L ≡ m = length-take-le m (rebuilt x (first_link_of o) is) (omega (arith, rebuilt-long x (first_link_of o) is)) in
-    sym (ap (λ (k : ℕ). parts (take k (slots L))) (sym n) ∙ ap parts (slots-taken L) ∙ rebuilt-parts x (first_link_of o) is m)
+-- the partitions of the records of a chain that was read
+module _ (x : List ℕ) (h : MBRHeader) (is : List ℕ) (m : ℕ) (few : m ≤ length is)
+    (q : gives (rebuilt x (first_link_of (extended_of (primaries h))) (take m is)) ≡ logicals_of (view (disk_of x)) (extended_of (primaries h))) where
+  abbrev k : Link
+  k = first_link_of (extended_of (primaries h))
 
--- the same, with what the header of the extract says
-pub chain-table : (x : List ℕ) (y : Extract) (h : MBRHeader) (is : List ℕ) (c : Counted) → y ≡ header_of x
-    → read_as x (extended_of (primaries h)) is c ≡ told (logicals_of (view (disk_of x)) (extended_of (primaries h))) → c.count ≤ length is → c.answer ≡ answers.Done
-    → finished y.sector_size y.disk_size h (slots (take c.count (rebuilt x (first_link_of (extended_of (primaries h))) is))) c.count (alignment (starts_found x h is c.count))
-    ≡ table_told (with_chain (disk_of x) h)
-chain-table x y h is c p e b q =
-    let o = extended_of (primaries h) in
-    let ls = slots (take c.count (rebuilt x (first_link_of o) is)) in
-    let s = alignment (starts_found x h is c.count) in
-    ap (λ (z : Extract). finished z.sector_size z.disk_size h ls c.count s) p
-    ∙ (λ i. finished (sym (width_of x) i) (sym (size_of x) i) h ls c.count s)
-    ∙ ap (λ (z : List MBRPartitionEntry). finished (disk_of x).width (disk_of x).size h ls c.count (alignment (used_starts (primaries h ++ z)))) (parts-found x o is c.count b)
-    ∙ chain-given (disk_of x) h (read_as x o is c) e q
+  abbrev ls : List LogicalPartition
+  ls = rebuilt x k (take m is)
+
+  starts : (s : Said ℕ) → s ≡ alignment (starts_found x h (take m is)) → s ≡ alignment (used_starts (primaries h ++ parts ls))
+  starts s e = e ∙ ap (λ (z : List MBRPartitionEntry). alignment (used_starts (primaries h ++ z))) (sym (rebuilt-parts x k (take m is)))
+
+  pub table-refused : (r : ℕ) → refuses r ≡ alignment (starts_found x h (take m is)) → refuses r ≡ table_read (with_chain (disk_of x) h)
+  table-refused r e = ap table_read (align-refused (disk_of x) h ls q r (starts (refuses r) e))
+
+  pub table-given : (y : Extract) (a : ℕ) → y ≡ header_of x → gives a ≡ alignment (starts_found x h (take m is))
+      → gives (made y.sector_size y.disk_size h (slots ls) m a) ≡ table_read (with_chain (disk_of x) h)
+  table-given y a p e =
+      let n : length ls ≡ m = rebuilt-long x k (take m is) ∙ length-take-le m is few in
+      ap (λ (z : Extract). gives (made z.sector_size z.disk_size h (slots ls) m a)) p
+      ∙ (λ i. gives (made (sym (width_of x) i) (sym (size_of x) i) h (slots ls) (sym n i) a))
+      ∙ ap gives (made-of (disk_of x) h ls a)
+      ∙ ap table_read (align-given (disk_of x) h ls q a (starts (gives a) e))

@@ -1,6 +1,6 @@
 -- An extract collected from a disk, one wanted record after another. Assumes nothing.
 use Rattle.std.specs.Prelude.{◌≡◌, List, [], ◌∷◌, false, ◌⊎◌, ℕ, suc}
-use Rattle.std.proofs.Math.Option.{some}
+use Rattle.std.specs.Prelude.{Some}
 use Rattle.base.specs.Pick.{pick}
 use Rattle.extract.specs.Disk.{Disk}
 use Rattle.extract.specs.Extract.{Good, disk_of}
@@ -27,4 +27,4 @@ pub record Adds (d : Disk) (x : List ℕ) (a : ℕ) (y : List ℕ) : Type 0 wher
 -- z comes of x by adding what is wanted, n times
 pub data Collected (d : Disk) : List ℕ → ℕ → List ℕ → Type 0 where
   enough : {x : List ℕ} → Collected d x 0 x
-  more : {x y z : List ℕ} {n a : ℕ} → first_absent x (looked (disk_of x)) ≡ some a → Adds d x a y → Collected d y n z → Collected d x (suc n) z
+  more : {x y z : List ℕ} {n a : ℕ} → first_absent x (looked (disk_of x)) ≡ Some a → Adds d x a y → Collected d y n z → Collected d x (suc n) z

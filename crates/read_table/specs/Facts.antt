@@ -1,6 +1,6 @@
 -- The facts that reading a disk amounts to; and the sectors that reading looks at. Assumes nothing.
 use Rattle.std.specs.Prelude.{ℕ, zero, suc, ◌+◌, List, [], ◌∷◌, ◌++◌, ◌≡◌, ltb}
-use Rattle.std.proofs.Math.Option.{Option, none, some}
+use Rattle.std.specs.Prelude.{Option, None, Some}
 use Rattle.base.specs.Pick.{pick}
 use Rattle.base.specs.Said.{Said, gives, refuses}
 use Rattle.record_entry.specs.declared.MBRPartitionEntry.{MBRPartitionEntry}
@@ -38,8 +38,8 @@ behind d X (suc m) rel h = if_given (follows_in (suc m) X rel h) (by_link [] (λ
 
 -- those of the chain of an extended entry
 unfoldable pub chain_looks : Disk → Option MBRPartitionEntry → List ℕ
-chain_looks d none = []
-chain_looks d (some e) = looking d e.starting_lba (view d e.starting_lba) (behind d e.starting_lba most 0)
+chain_looks d None = []
+chain_looks d (Some e) = looking d e.starting_lba (view d e.starting_lba) (behind d e.starting_lba most 0)
 
 -- the sectors that reading looks at, in its order (rule R29)
 unfoldable pub looked : Disk → List ℕ

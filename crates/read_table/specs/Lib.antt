@@ -1,5 +1,4 @@
 pub mod Read
 pub mod Facts
-pub mod Answers
 pub mod Wanted
 pub mod Collect

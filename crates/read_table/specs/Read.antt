@@ -52,6 +52,10 @@ table_of t =
       disk_size = t.size;
     }
 
+-- what reading says, the table by value
+abbrev pub table_read : Said Table → Said MBR
+table_read s = and_then s (λ t. gives (table_of t))
+
 -- what stands in the place of a table that is refused
 unfoldable pub no_table : MBR
 no_table = table_of (record { width = 0; size = 0; header = no_header; logicals = []; align = default_align })

@@ -1,32 +1,11 @@
 -- Laws of CHS addresses and their bytes. Assumes nothing.
-use mathlib.Core.Path.{◌≡◌, refl}
+use mathlib.Core.Path.{◌≡◌}
 use mathlib.Core.List.{[], ◌∷◌}
 use Prim.Native.Nat.{ℕ, ◌+◌, ◌*◌, ◌/◌, ◌%◌, ◌<◌}
 use native.Mathlib.Omega.{arith}
 use Rattle.base.specs.Bytes.{Bytes}
-use Rattle.base.specs.Said.{refusal_of}
-use Rattle.base.proofs.Readings.{undone-injective, from_said}
 use Rattle.record_chs.specs.declared.CHS.{CHS}
-use Rattle.record_chs.specs.declared.Placed.{Placed}
-use Rattle.record_chs.specs.declared.Placed.TheVariants.{At, Refused}
-use Rattle.record_chs.specs.declared.Lba.{Lba}
-use Rattle.record_chs.specs.declared.Lba.TheVariants.{At as LbaAt, Refused as LbaRefused}
-use Rattle.record_chs.specs.Chs.{chs, chs_bytes, chs_of, ChsOk, placed_said, lba}
-
--- what an answer says determines it
-pub placed-injective : (a b : Placed) → placed_said a ≡ placed_said b → a ≡ b
-placed-injective = undone-injective placed_said (from_said At (λ k. Refused (refusal_of k))) back
-  where
-    back : (a : Placed) → from_said At (λ k. Refused (refusal_of k)) (placed_said a) ≡ a
-    back (At n) = refl
-    back (Refused r) = refl
-
-pub lba-injective : (a b : Lba) → lba a ≡ lba b → a ≡ b
-lba-injective = undone-injective lba (from_said LbaAt (λ k. LbaRefused (refusal_of k))) back
-  where
-    back : (a : Lba) → from_said LbaAt (λ k. LbaRefused (refusal_of k)) (lba a) ≡ a
-    back (LbaAt n) = refl
-    back (LbaRefused r) = refl
+use Rattle.record_chs.specs.Chs.{chs, chs_bytes, chs_of, ChsOk}
 
 -- an address that three bytes can hold is read back from its bytes
 pub chs-back : (c : CHS) → ChsOk c → chs_of (chs_bytes c) ≡ c

@@ -1,12 +1,8 @@
 -- CHS addresses: cylinder, head, sector. Assumes nothing.
 use Rattle.std.specs.Prelude.{ℕ, ◌+◌, ◌*◌, ◌-◌, ◌/◌, ◌%◌, ◌<◌, List, [], ◌∷◌, Bool, not, ◌&&◌, get_or, ltb, leb, eqb}
-use Rattle.base.specs.Said.{Said, gives, refuses}
+use Rattle.base.specs.Said.{Said}
 use Rattle.base.specs.Checks.{Check, ◌!◌, answer}
 use Rattle.record_chs.specs.declared.CHS.{CHS}
-use Rattle.record_chs.specs.declared.Placed.{Placed}
-use Rattle.record_chs.specs.declared.Placed.TheVariants.{At, Refused}
-use Rattle.record_chs.specs.declared.Lba.{Lba}
-use Rattle.record_chs.specs.declared.Lba.TheVariants.{At as LbaAt, Refused as LbaRefused}
 
 -- an address (rule C1)
 abbrev pub chs : ℕ → ℕ → ℕ → CHS
@@ -72,12 +68,3 @@ is_empty c = eqb c.cylinder 0 && (eqb c.head 0 && eqb c.sector 0)
 abbrev pub is_valid : CHS → ℕ → ℕ → ℕ → Bool
 is_valid c cylinders heads sectors =
     not (eqb c.sector 0) && (leb c.sector sectors && (ltb c.head heads && ltb c.cylinder cylinders))
-
--- what the two answers say
-abbrev pub placed_said : Placed → Said CHS
-placed_said (At c) = gives c
-placed_said (Refused r) = refuses r.number
-
-abbrev pub lba : Lba → Said ℕ
-lba (LbaAt n) = gives n
-lba (LbaRefused r) = refuses r.number

@@ -6,29 +6,16 @@
 pub mod three_bytes;
 
 ghost use Rattle.std.specs.Prelude.{◌≡◌, ◌+◌, ◌*◌, ◌-◌, ◌/◌, ◌≤◌, ◌<◌, ◌%◌};
-ghost use Rattle.record_chs.specs.Chs.{chs, no_chs, chs_of, chs_bytes, address_of, next_cylinder, behind_lba, exact, aligned, lba_of, is_empty, is_valid, placed_said, lba};
+ghost use Rattle.base.specs.Said.{answered};
+ghost use Rattle.record_chs.specs.Chs.{chs, no_chs, chs_of, chs_bytes, address_of, next_cylinder, behind_lba, exact, aligned, lba_of, is_empty, is_valid};
 
 use base::Refusal;
 
-#[derive(Clone, Copy)]
+#[derive(Clone, Copy, Debug, PartialEq, Eq)]
 pub struct CHS {
     pub cylinder: u16,
     pub head: u8,
     pub sector: u8,
-}
-
-// An address, or a refusal's number.
-#[derive(Clone, Copy)]
-pub enum Placed {
-    At(CHS),
-    Refused(Refusal),
-}
-
-// A sector, or a refusal's number.
-#[derive(Clone, Copy)]
-pub enum Lba {
-    At(u32),
-    Refused(Refusal),
 }
 
 // The sectors of a cylinder.
@@ -68,9 +55,9 @@ impl CHS {
         ensures { result ≡ chs cylinder head sector }
     {
         CHS {
-            cylinder: cylinder,
-            head: head,
-            sector: sector,
+            cylinder,
+            head,
+            sector,
         }
     }
 
@@ -84,89 +71,83 @@ impl CHS {
         }
     }
 
-    pub fn from_lba_exact(lba: u32, cylinders: u16, heads: u8, sectors: u8) -> Placed
-        ensures { placed_said result ≡ exact lba cylinders heads sectors }
+    pub fn from_lba_exact(lba: u32, cylinders: u16, heads: u8, sectors: u8) -> Result<CHS, Refusal>
+        ensures { answered result ≡ exact lba cylinders heads sectors }
     {
         let size = cylinder_size(heads, sectors);
         if size == 0 {
-            return Placed::Refused(Refusal::ARITHMETIC);
+            return Err(Refusal::Arithmetic);
         }
         let cylinder = lba / size;
         if 1023 < cylinder {
-            return Placed::Refused(Refusal::CYLINDER_1023);
+            return Err(Refusal::LBAExceedsMaximumCHS);
         }
         if (cylinders as u32) < cylinder {
-            return Placed::Refused(Refusal::CYLINDER_DISK);
+            return Err(Refusal::LBAExceedsMaximumCylinders);
         }
-        Placed::At(address_of(lba, heads, sectors))
+        Ok(address_of(lba, heads, sectors))
     }
 
-    pub fn from_lba_aligned(lba: u32, cylinders: u16, heads: u8, sectors: u8) -> Placed
-        ensures { placed_said result ≡ aligned lba cylinders heads sectors }
+    pub fn from_lba_aligned(
+        lba: u32,
+        cylinders: u16,
+        heads: u8,
+        sectors: u8,
+    ) -> Result<CHS, Refusal>
+        ensures { answered result ≡ aligned lba cylinders heads sectors }
     {
         if lba == 0 {
-            return Placed::Refused(Refusal::ARITHMETIC);
+            return Err(Refusal::Arithmetic);
         }
         let step = cylinder_size(heads, sectors);
         if step == 0 {
-            return Placed::Refused(Refusal::ARITHMETIC);
+            return Err(Refusal::Arithmetic);
         }
         let next = (lba - 1) / step + 1;
         if 1023 < next {
-            return Placed::Refused(Refusal::CYLINDER_1023);
+            return Err(Refusal::LBAExceedsMaximumCHS);
         }
         if (cylinders as u32) < next {
-            return Placed::Refused(Refusal::CYLINDER_DISK);
+            return Err(Refusal::LBAExceedsMaximumCylinders);
         }
-        Placed::At(CHS {
+        Ok(CHS {
             cylinder: next as u16,
             head: 0,
             sector: 1,
         })
     }
 
-    pub fn to_lba(self, heads: u8, sectors: u8) -> Lba
-        ensures { lba result ≡ lba_of self heads sectors }
+    pub fn to_lba(self, heads: u8, sectors: u8) -> Result<u32, Refusal>
+        ensures { answered result ≡ lba_of self heads sectors }
     {
         let behind = behind_lba(self, heads, sectors);
         if behind == 0 {
-            return Lba::Refused(Refusal::ARITHMETIC);
+            return Err(Refusal::Arithmetic);
         }
-        Lba::At(behind - 1)
+        Ok(behind - 1)
     }
 
     pub fn is_empty(self) -> bool
         ensures { result ≡ is_empty self }
     {
-        if self.cylinder != 0 {
-            return false;
-        }
-        if self.head != 0 {
-            return false;
-        }
-        self.sector == 0
+        self.cylinder == 0 && self.head == 0 && self.sector == 0
     }
 
     pub fn is_valid(self, cylinders: u16, heads: u8, sectors: u8) -> bool
         ensures { result ≡ is_valid self cylinders heads sectors }
     {
-        if self.sector == 0 {
-            return false;
-        }
-        if sectors < self.sector {
-            return false;
-        }
-        if heads <= self.head {
-            return false;
-        }
-        self.cylinder < cylinders
+        self.sector != 0 && self.sector <= sectors && self.head < heads && self.cylinder < cylinders
     }
 
     // The address in three bytes.
     pub fn of_bytes(b: [u8; 3]) -> CHS
         ensures { result ≡ chs_of b }
     {
-        of_three(b[0], b[1], b[2])
+        CHS {
+            cylinder: b[1] as u16 / 64 * 256 + b[2] as u16,
+            head: b[0],
+            sector: b[1] % 64,
+        }
     }
 
     // The three bytes; higher bits are dropped.
@@ -178,16 +159,5 @@ impl CHS {
             (self.cylinder / 256 % 4) as u8 * 64 + self.sector % 64,
             (self.cylinder % 256) as u8,
         ]
-    }
-}
-
-// The address in three bytes, one by one.
-pub fn of_three(head: u8, mid: u8, low: u8) -> CHS
-    ensures { result ≡ chs (mid / 64 * 256 + low) head (mid % 64) }
-{
-    CHS {
-        cylinder: mid as u16 / 64 * 256 + low as u16,
-        head: head,
-        sector: mid % 64,
     }
 }

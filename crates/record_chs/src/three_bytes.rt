@@ -11,7 +11,7 @@ pub fn read(s: &[u8], at: usize) -> CHS
     requires { at + 3 ≤ length s.now }
     ensures { result ≡ chs_of (bytes_at s.now at 3) }
 {
-    crate::of_three(s[at], s[at + 1], s[at + 2])
+    CHS::of_bytes([s[at], s[at + 1], s[at + 2]])
 }
 
 // The address into the three bytes from index `at` on.
@@ -19,7 +19,5 @@ pub fn write(d: &mut [u8], at: usize, c: CHS)
     requires { at + 3 ≤ length d.old }
     ensures { d.new ≡ put d.old at (chs_bytes c) }
 {
-    d[at] = c.head;
-    d[at + 1] = (c.cylinder / 256 % 4) as u8 * 64 + c.sector % 64;
-    d[at + 2] = (c.cylinder % 256) as u8;
+    base::copy_in(d, at, &c.to_bytes());
 }

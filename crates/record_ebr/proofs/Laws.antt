@@ -1,31 +1,19 @@
 -- Laws of EBR records. Assumes nothing.
 use mathlib.Core.Path.{◌≡◌, refl, sym, ap, ◌∙◌}
 use mathlib.Core.Bool.{true}
-use mathlib.Core.Option.{none}
+use Rattle.std.specs.Prelude.{None}
 use mathlib.Core.List.{List, ◌++◌, append_assoc}
 use Prim.Native.Nat.{ℕ, ◌+◌, ◌≤◌}
 use native.Mathlib.Omega.{arith}
 use lib.ListN.{length, take, drop, get_or, length-append, length-drop, length-replicate}
 use lib.Seq.{take_at, drop_at, get_or-append-add, length-take-le}
 use Rattle.base.specs.Bytes.{Record, stands_at, signature}
-use Rattle.base.specs.Said.{refusal_of}
 use Rattle.base.specs.Checks.{first-fail}
 use Rattle.base.proofs.Bytes.{bytes-append, bytes-zeros, bytes_take, bytes_drop}
-use Rattle.base.proofs.Readings.{undone-injective, from_said}
 use Rattle.record_entry.specs.Entry.{entry_at, entry_bytes, flag_ok, EntryOk}
 use Rattle.record_entry.proofs.Laws.{entry_past, entry-back, entry-ok, entry-bytes}
 use Rattle.record_ebr.specs.declared.EBRHeader.{EBRHeader}
-use Rattle.record_ebr.specs.declared.Opened.{Opened}
-use Rattle.record_ebr.specs.declared.Opened.TheVariants.{Ebr, Refused}
-use Rattle.record_ebr.specs.Ebr.{mark_length, mark_offset, kept_at, kept_of, ebr_of, marked, ebr_bytes, ebr_read_checks, no_mark, no_kept, MarkOk, KeptOk, EbrOk, opened}
-
--- what an answer says determines it
-pub opened-injective : (a b : Opened) → opened a ≡ opened b → a ≡ b
-opened-injective = undone-injective opened (from_said Ebr (λ k. Refused (refusal_of k))) back
-  where
-    back : (a : Opened) → from_said Ebr (λ k. Refused (refusal_of k)) (opened a) ≡ a
-    back (Refused r) = refl
-    back (Ebr e) = refl
+use Rattle.record_ebr.specs.Ebr.{mark_length, mark_offset, kept_at, kept_of, ebr_of, marked, ebr_bytes, ebr_read_checks, no_mark, no_kept, MarkOk, KeptOk, EbrOk}
 
 get_d_past : (p q : List ℕ) (n m : ℕ) → length p ≡ n → get_or (p ++ q) (n + m) 0 ≡ get_or q m 0
 get_d_past p q n m e = rw (← e) (get_or-append-add p q m 0)
@@ -102,7 +90,7 @@ pub ebr-back : (m : List ℕ) (h : EBRHeader) → MarkOk m → EbrOk h → ebr_o
 ebr-back m h w o = rw (kept_back m h w o.kept, first_back m h w o.kept o.first, second_back m h w o.kept o.second)
 
 -- and no check of reading fails on it
-pub ebr-reads : (m : List ℕ) (h : EBRHeader) → MarkOk m → EbrOk h → flag_ok h.partition_1 ≡ true → flag_ok h.partition_2 ≡ true → first-fail (ebr_read_checks (ebr_bytes m h)) ≡ none
+pub ebr-reads : (m : List ℕ) (h : EBRHeader) → MarkOk m → EbrOk h → flag_ok h.partition_1 ≡ true → flag_ok h.partition_2 ≡ true → first-fail (ebr_read_checks (ebr_bytes m h)) ≡ None
 ebr-reads m h w o f g =
     let n : length (ebr_bytes m h) ≡ 512 = (ebr-record m h w o.kept o.first o.second).long in
     let s : stands_at (ebr_bytes m h) 510 signature ≡ true = signature-back m h w o.kept in

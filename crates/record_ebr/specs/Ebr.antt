@@ -1,14 +1,11 @@
 -- An EBR: code 446, partition entry, link entry, mark 32, 55 AA. Assumes nothing.
 use Rattle.std.specs.Prelude.{ℕ, List, [], ◌∷◌, ◌++◌, ◌≡◌, length, take, drop, replicate}
 use Rattle.base.specs.Bytes.{Bytes, signature, stands_at}
-use Rattle.base.specs.Said.{Said, gives, refuses}
 use Rattle.base.specs.Checks.{Check, ◌!◌, record_check, record_room}
 use Rattle.record_entry.specs.Entry.{entry_at, entry_bytes, no_entry, flag_ok, EntryOk}
 use Rattle.record_ebr.specs.declared.Kept.{Kept}
 use Rattle.record_ebr.specs.declared.EBRHeader.{EBRHeader}
 use Rattle.record_ebr.specs.declared.Entries.{Entries}
-use Rattle.record_ebr.specs.declared.Opened.{Opened}
-use Rattle.record_ebr.specs.declared.Opened.TheVariants.{Refused, Ebr}
 
 -- the bytes of a mark, and where it stands in a record: bytes 478 to 509 (rule B8)
 abbrev pub mark_length : ℕ
@@ -70,11 +67,6 @@ ebr_bytes m h =
 -- flags of both entries 4, lent bytes too short 19 (rule M13)
 abbrev pub ebr_write_checks : EBRHeader → ℕ → List Check
 ebr_write_checks h room = (4 ! flag_ok h.partition_1) ∷ (4 ! flag_ok h.partition_2) ∷ record_room room ∷ []
-
--- what opening an EBR says
-abbrev pub opened : Opened → Said Entries
-opened (Refused r) = refuses r.number
-opened (Ebr e) = gives e
 
 -- a mark that 32 bytes can hold
 pub record MarkOk (m : List ℕ) : Type 0 where

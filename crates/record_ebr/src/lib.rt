@@ -7,8 +7,9 @@ pub mod reader;
 pub mod writer;
 
 ghost use Rattle.std.specs.Prelude.{◌≡◌, ◌+◌, ◌≤◌, length};
+ghost use Rattle.base.specs.Said.{answered};
 ghost use Rattle.base.specs.Checks.{answer};
-ghost use Rattle.record_ebr.specs.Ebr.{kept_at, kept_of, entries_of, ebr_checks, no_kept, no_ebr, opened, mark_length};
+ghost use Rattle.record_ebr.specs.Ebr.{kept_at, kept_of, entries_of, ebr_checks, no_kept, no_ebr, mark_length};
 
 use base::Refusal;
 use record_entry::MBRPartitionEntry;
@@ -40,13 +41,6 @@ pub struct Entries {
     pub partition_2: MBRPartitionEntry,
 }
 
-// An EBR's entries, or a refusal.
-#[derive(Clone, Copy)]
-pub enum Opened {
-    Refused(Refusal),
-    Ebr(Entries),
-}
-
 // The code from index `code` on, and the mark from index `mark` on.
 pub fn kept_at(r: &[u8], code: usize, mark: usize) -> Kept
     requires { (code + 446 ≤ length r.now) × (mark + mark_length ≤ length r.now) }
@@ -71,24 +65,22 @@ pub fn kept_of(r: &[u8]) -> Kept
 }
 
 // The entries of a record of 512 bytes.
-pub fn open(r: &[u8]) -> Opened
+pub fn open(r: &[u8]) -> Result<Entries, Refusal>
     requires { 512 ≤ length r.now }
-    ensures { opened result ≡ answer (ebr_checks r.now) (entries_of r.now) }
+    ensures { answered result ≡ answer (ebr_checks r.now) (entries_of r.now) }
 {
-    let signed = base::stands_at(r, 510, &base::SIGNATURE);
-    let first = record_entry::reader::read(r, 446);
-    let flagged = first.check();
-    if !signed {
-        return Opened::Refused(Refusal::SIGNATURE);
+    if !base::stands_at(r, 510, &base::SIGNATURE) {
+        return Err(Refusal::InvalidSignature);
     }
-    if !flagged {
-        return Opened::Refused(Refusal::BOOT_FLAG);
+    let first = record_entry::reader::read(r, 446);
+    if !first.check() {
+        return Err(Refusal::InvalidBootFlag);
     }
     let second = record_entry::reader::read(r, 462);
     if !second.check() {
-        return Opened::Refused(Refusal::BOOT_FLAG);
+        return Err(Refusal::InvalidBootFlag);
     }
-    Opened::Ebr(Entries {
+    Ok(Entries {
         partition_1: first,
         partition_2: second,
     })
@@ -110,12 +102,10 @@ impl EBRHeader {
     pub fn empty() -> EBRHeader
         ensures { result ≡ no_ebr }
     {
-        let kept = Kept::empty();
-        let none = MBRPartitionEntry::empty();
         EBRHeader {
-            kept: kept,
-            partition_1: none,
-            partition_2: none,
+            kept: Kept::empty(),
+            partition_1: MBRPartitionEntry::empty(),
+            partition_2: MBRPartitionEntry::empty(),
         }
     }
 }

@@ -15,7 +15,7 @@ pub const BOOT_ACTIVE: u8 = 0x80;
 
 pub const BOOT_INACTIVE: u8 = 0x00;
 
-#[derive(Clone, Copy)]
+#[derive(Clone, Copy, Debug, PartialEq, Eq)]
 pub struct MBRPartitionEntry {
     pub boot: u8,
     pub first_chs: CHS,
@@ -29,12 +29,11 @@ impl MBRPartitionEntry {
     pub fn empty() -> MBRPartitionEntry
         ensures { result ≡ no_entry }
     {
-        let none = CHS::empty();
         MBRPartitionEntry {
             boot: BOOT_INACTIVE,
-            first_chs: none,
+            first_chs: CHS::empty(),
             sys: 0,
-            last_chs: none,
+            last_chs: CHS::empty(),
             starting_lba: 0,
             sectors: 0,
         }
@@ -55,11 +54,7 @@ impl MBRPartitionEntry {
     pub fn is_extended(self) -> bool
         ensures { result ≡ extended self.sys }
     {
-        let sys = self.sys;
-        match sys {
-            0x05 | 0x0F | 0x85 | 0xC5 | 0xD5 => true,
-            _ => false,
-        }
+        matches!(self.sys, 0x05 | 0x0F | 0x85 | 0xC5 | 0xD5)
     }
 
     pub fn is_active(self) -> bool
@@ -72,10 +67,6 @@ impl MBRPartitionEntry {
     pub fn check(self) -> bool
         ensures { result ≡ flag_ok self }
     {
-        let boot = self.boot;
-        match boot {
-            0x00 | 0x80 => true,
-            _ => false,
-        }
+        matches!(self.boot, BOOT_INACTIVE | BOOT_ACTIVE)
     }
 }

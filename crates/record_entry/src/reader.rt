@@ -9,16 +9,12 @@ pub fn read(s: &[u8], at: usize) -> MBRPartitionEntry
     requires { at + 16 ≤ length s.now }
     ensures { result ≡ entry_at s.now at }
 {
-    let first = record_chs::three_bytes::read(s, at + 1);
-    let last = record_chs::three_bytes::read(s, at + 5);
-    let start = base::get32(s, at + 8);
-    let sectors = base::get32(s, at + 12);
     MBRPartitionEntry {
         boot: s[at],
-        first_chs: first,
+        first_chs: record_chs::three_bytes::read(s, at + 1),
         sys: s[at + 4],
-        last_chs: last,
-        starting_lba: start,
-        sectors: sectors,
+        last_chs: record_chs::three_bytes::read(s, at + 5),
+        starting_lba: base::get32(s, at + 8),
+        sectors: base::get32(s, at + 12),
     }
 }

@@ -11,11 +11,9 @@ pub fn write(d: &mut [u8], at: usize, e: MBRPartitionEntry)
     ensures { d.new ≡ put d.old at (entry_bytes e) }
 {
     base::put8(d, at, e.boot);
-    let first = e.first_chs;
-    record_chs::three_bytes::write(d, at + 1, first);
+    record_chs::three_bytes::write(d, at + 1, e.first_chs);
     base::put8(d, at + 4, e.sys);
-    let last = e.last_chs;
-    record_chs::three_bytes::write(d, at + 5, last);
+    record_chs::three_bytes::write(d, at + 5, e.last_chs);
     base::put32(d, at + 8, e.starting_lba);
     base::put32(d, at + 12, e.sectors);
 }

@@ -1,7 +1,7 @@
 -- Laws of MBR records. Assumes nothing.
 use mathlib.Core.Path.{◌≡◌, refl, sym, ap, ◌∙◌}
 use mathlib.Core.Bool.{Bool, true, false}
-use mathlib.Core.Option.{Option, none, some}
+use Rattle.std.specs.Prelude.{Option, None, Some}
 use mathlib.Core.List.{List, [], ◌∷◌, ◌++◌, append_assoc}
 use Prim.Native.Nat.{ℕ, ◌+◌, ◌<◌, ◌≤◌}
 use native.Mathlib.Omega.{arith}
@@ -17,20 +17,11 @@ use Rattle.record_entry.specs.declared.MBRPartitionEntry.{MBRPartitionEntry}
 use Rattle.record_entry.specs.Entry.{entry_at, entry_bytes, flag_ok, extended, EntryOk}
 use Rattle.record_entry.proofs.Laws.{entry-within, entry-bytes-back, entry-ok, entry-bytes}
 use Rattle.record_mbr.specs.declared.MBRHeader.{MBRHeader}
-use Rattle.record_mbr.specs.declared.Found.{Found}
-use Rattle.record_mbr.specs.declared.Found.TheVariants.{Nothing, Entry}
 use Rattle.record_mbr.specs.declared.Protection.{Protection}
 use Rattle.record_mbr.specs.declared.Protection.TheVariants.{No, Yes, Neither}
-use Rattle.record_mbr.specs.Mbr.{code_of, mbr_of, mbr_bytes, primaries, header_checks, mbr_read_checks, MbrOk, FirstExtended, PlainAll, extended_of, found, protected}
+use Rattle.record_mbr.specs.Mbr.{code_of, mbr_of, mbr_bytes, primaries, header_checks, mbr_read_checks, MbrOk, FirstExtended, PlainAll, extended_of, protected}
 
 -- what an answer says determines it
-pub found-injective : (a b : Found) → found a ≡ found b → a ≡ b
-found-injective = undone-injective found (from_option Entry Nothing) back
-  where
-    back : (a : Found) → from_option Entry Nothing (found a) ≡ a
-    back Nothing = refl
-    back (Entry e) = refl
-
 pub protected-injective : (a b : Protection) → protected a ≡ protected b → a ≡ b
 protected-injective = undone-injective protected (from_option (λ b. pick b Yes No) Neither) back
   where
@@ -40,12 +31,12 @@ protected-injective = undone-injective protected (from_option (λ b. pick b Yes 
     back Neither = refl
 
 -- the extended entry is the first such one among the entries
-pub extended-found : (es : List MBRPartitionEntry) (e : MBRPartitionEntry) → extended_of es ≡ some e → FirstExtended es e
+pub extended-found : (es : List MBRPartitionEntry) (e : MBRPartitionEntry) → extended_of es ≡ Some e → FirstExtended es e
 unfolding extended_of
 extended-found [] e h = let w : ◌≡◌ {A = ℕ} 0 1 = cc in absurd (omega arith)
 extended-found (x ∷ xs) e h = go (extended-found xs e) (extended x.sys) refl h
   where
-    go : (extended_of xs ≡ some e → FirstExtended xs e) → (b : Bool) → extended x.sys ≡ b → pick b (some x) (extended_of xs) ≡ some e → FirstExtended (x ∷ xs) e
+    go : (extended_of xs ≡ Some e → FirstExtended xs e) → (b : Bool) → extended x.sys ≡ b → pick b (Some x) (extended_of xs) ≡ Some e → FirstExtended (x ∷ xs) e
     go ih true q p =
         let s : x ≡ e = cc in
         record { before = []; behind = xs; parts = ap (λ (y : MBRPartitionEntry). y ∷ xs) s; plain = tt; is-extended = rw s at q }
@@ -53,29 +44,29 @@ extended-found (x ∷ xs) e h = go (extended-found xs e) (extended x.sys) refl h
         let f : FirstExtended xs e = ih p in
         record { before = x ∷ f.before; behind = f.behind; parts = ap (◌∷◌ x) f.parts; plain = (q, f.plain); is-extended = f.is-extended }
 
-pub extended_none : (es : List MBRPartitionEntry) → extended_of es ≡ none → PlainAll es
+pub extended_none : (es : List MBRPartitionEntry) → extended_of es ≡ None → PlainAll es
 unfolding extended_of
 extended_none [] h = tt
 extended_none (x ∷ xs) h = go (extended_none xs) (extended x.sys) refl h
   where
-    go : (extended_of xs ≡ none → PlainAll xs) → (b : Bool) → extended x.sys ≡ b → pick b (some x) (extended_of xs) ≡ none → PlainAll (x ∷ xs)
+    go : (extended_of xs ≡ None → PlainAll xs) → (b : Bool) → extended x.sys ≡ b → pick b (Some x) (extended_of xs) ≡ None → PlainAll (x ∷ xs)
     go ih true q p = let w : ◌≡◌ {A = ℕ} 0 1 = cc in absurd (omega arith)
     go ih false q p = (q, ih p)
 
 -- and has what all four have
 pub extended-has : (P : MBRPartitionEntry → Type 0) (h : MBRHeader) (e : MBRPartitionEntry) → P h.partition_1 → P h.partition_2 → P h.partition_3 → P h.partition_4
-    → extended_of (primaries h) ≡ some e → P e
+    → extended_of (primaries h) ≡ Some e → P e
 unfolding extended_of
 extended-has P h e p₁ p₂ p₃ p₄ =
     one h.partition_1 (one h.partition_2 (one h.partition_3 (one h.partition_4 nothing p₄) p₃) p₂) p₁
   where
-    nothing : none ≡ some e → P e
+    nothing : None ≡ Some e → P e
     nothing q = let w : ◌≡◌ {A = ℕ} 0 1 = cc in absurd (omega arith)
 
-    one : (x : MBRPartitionEntry) {o : Option MBRPartitionEntry} → (o ≡ some e → P e) → P x → pick (extended x.sys) (some x) o ≡ some e → P e
+    one : (x : MBRPartitionEntry) {o : Option MBRPartitionEntry} → (o ≡ Some e → P e) → P x → pick (extended x.sys) (Some x) o ≡ Some e → P e
     one x {o} rest px q = go (extended x.sys) q
       where
-        go : (b : Bool) → pick b (some x) o ≡ some e → P e
+        go : (b : Bool) → pick b (Some x) o ≡ Some e → P e
         go true q =
             let s : x ≡ e = cc in
             rw s at px
@@ -237,18 +228,18 @@ module _ (h : MBRHeader) (o : MbrOk h) where
       }
 
   -- and no check of reading fails on it
-  pub mbr-reads : first-fail (header_checks h) ≡ none → first-fail (mbr_read_checks (mbr_bytes h)) ≡ none
+  pub mbr-reads : first-fail (header_checks h) ≡ None → first-fail (mbr_read_checks (mbr_bytes h)) ≡ None
   mbr-reads f = rw mbr-record.long (ap (λ (x : MBRHeader). first-fail (header_checks x)) mbr-back ∙ f)
 
   -- which is so once the flags are right
-  pub mbr-flags : flag_ok h.partition_1 ≡ true → flag_ok h.partition_2 ≡ true → flag_ok h.partition_3 ≡ true → flag_ok h.partition_4 ≡ true → first-fail (header_checks h) ≡ none
+  pub mbr-flags : flag_ok h.partition_1 ≡ true → flag_ok h.partition_2 ≡ true → flag_ok h.partition_3 ≡ true → flag_ok h.partition_4 ≡ true → first-fail (header_checks h) ≡ None
   mbr-flags p q s t = rw (o.signed, p, q, s, t)
 
 -- what is signed has the signature's bytes
 signed_by : (r : List ℕ) → stands_at (bytes_at r 510 2) 0 signature ≡ true → bytes_at r 510 2 ≡ signature
 signed_by r h = stands-bytes (bytes_at r 510 2) 0 signature h
 
-module _ (r : List ℕ) (k : Record r) (f : first-fail (mbr_read_checks r) ≡ none) where
+module _ (r : List ℕ) (k : Record r) (f : first-fail (mbr_read_checks r) ≡ None) where
   signed : bytes_at r 510 2 ≡ signature
   signed = signed_by r (none-fails (mbr_read_checks r) f).1.0
 

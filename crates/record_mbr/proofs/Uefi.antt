@@ -1,6 +1,6 @@
 -- Every field of the UEFI Specification's legacy MBR is read from, and written to, its place there. Assumes nothing.
 use mathlib.Core.Path.{◌≡◌, refl, sym, ap, ◌∙◌}
-use mathlib.Core.Option.{none}
+use Rattle.std.specs.Prelude.{None}
 use mathlib.Core.List.{List, [], ◌∷◌, ◌++◌}
 use Prim.Native.Nat.{ℕ, ◌+◌, ◌<◌, ◌≤◌}
 use native.Mathlib.Nat.{add-zero, add_assoc}
@@ -99,7 +99,7 @@ slot-written third p h k = part-written p _ _ _ (three-there h k.code k.disk k.m
 slot-written fourth p h k = part-written p _ _ _ (four-there h k.code k.disk k.mark) k.four
 
 -- what is written for a field stands at its place: of every header that a program holds and writing does not refuse
-pub uefi-written : (f : Field) (h : MBRHeader) → HeaderFits h → first-fail (header_checks h) ≡ none → stands f (mbr_bytes h) ≡ held f h
+pub uefi-written : (f : Field) (h : MBRHeader) → HeaderFits h → first-fail (header_checks h) ≡ None → stands f (mbr_bytes h) ≡ held f h
 unfolding held stands
 uefi-written BootCode h k n =
     let l : 0 + 424 ≤ length (mbr_bytes h) = omega (arith, long-there h k.code k.disk k.mark) in
@@ -116,6 +116,6 @@ uefi-written Signature h k n =
     ap bytes (signature-there h k.code k.disk k.mark ∙ sym w ∙ bytes_at-part s 0 2 l ∙ take_all 2 s m)
 
 -- a record that reads has the signature there
-pub uefi-signature : (r : List ℕ) → Record r → first-fail (mbr_read_checks r) ≡ none → stands Signature r ≡ bytes (0x55 ∷ 0xAA ∷ [])
+pub uefi-signature : (r : List ℕ) → Record r → first-fail (mbr_read_checks r) ≡ None → stands Signature r ≡ bytes (0x55 ∷ 0xAA ∷ [])
 unfolding stands
 uefi-signature r k f = ap bytes (mbr-ok r k f).signed

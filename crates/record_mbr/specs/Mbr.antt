@@ -1,14 +1,12 @@
 -- An MBR: code 440, disk signature 4, copy mark 2, four entries of 16 at 446, then 55 AA. Assumes nothing.
 use Rattle.std.specs.Prelude.{ℕ, List, [], ◌∷◌, ◌++◌, Bool, true, false, ◌≡◌, length, take, replicate, eqb}
-use Rattle.std.proofs.Math.Option.{Option, none, some}
+use Rattle.std.specs.Prelude.{Option, None, Some}
 use Rattle.base.specs.Pick.{pick}
 use Rattle.base.specs.Bytes.{Bytes, signature, bytes_at, stands_at}
 use Rattle.base.specs.Checks.{Check, ◌!◌, record_check, record_room}
 use Rattle.record_entry.specs.declared.MBRPartitionEntry.{MBRPartitionEntry}
 use Rattle.record_entry.specs.Entry.{entry_at, entry_bytes, no_entry, flag_ok, extended, EntryOk}
 use Rattle.record_mbr.specs.declared.MBRHeader.{MBRHeader}
-use Rattle.record_mbr.specs.declared.Found.{Found}
-use Rattle.record_mbr.specs.declared.Found.TheVariants.{Nothing, Entry}
 use Rattle.record_mbr.specs.declared.Protection.{Protection}
 use Rattle.record_mbr.specs.declared.Protection.TheVariants.{No, Yes, Neither}
 
@@ -74,8 +72,8 @@ mbr_write_checks h room = header_checks h ++ record_room room ∷ []
 
 -- the first extended entry counts (rule M17)
 unfoldable pub extended_of : List MBRPartitionEntry → Option MBRPartitionEntry
-extended_of [] = none
-extended_of (e ∷ es) = pick (extended e.sys) (some e) (extended_of es)
+extended_of [] = None
+extended_of (e ∷ es) = pick (extended e.sys) (Some e) (extended_of es)
 
 -- none of these is extended
 abbrev pub PlainAll : List MBRPartitionEntry → Type 0
@@ -93,23 +91,19 @@ pub record FirstExtended (es : List MBRPartitionEntry) (e : MBRPartitionEntry) :
 -- entries are numbered from 1 to 4 (rule L1)
 abbrev pub primary_of : MBRHeader → ℕ → Option MBRPartitionEntry
 primary_of h i =
-    pick (eqb i 1) (some h.partition_1)
-    (pick (eqb i 2) (some h.partition_2)
-    (pick (eqb i 3) (some h.partition_3) (pick (eqb i 4) (some h.partition_4) none)))
+    pick (eqb i 1) (Some h.partition_1)
+    (pick (eqb i 2) (Some h.partition_2)
+    (pick (eqb i 3) (Some h.partition_3) (pick (eqb i 4) (Some h.partition_4) None)))
 
 -- the copy mark: 00 00 no, 5A 5A yes, else neither (rule M1)
 abbrev pub marked : List ℕ → Option Bool
-marked m = pick (stands_at m 0 (0 ∷ 0 ∷ [])) (some false) (pick (stands_at m 0 (0x5A ∷ 0x5A ∷ [])) (some true) none)
+marked m = pick (stands_at m 0 (0 ∷ 0 ∷ [])) (Some false) (pick (stands_at m 0 (0x5A ∷ 0x5A ∷ [])) (Some true) None)
 
--- what the answers say
-abbrev pub found : Found → Option MBRPartitionEntry
-found Nothing = none
-found (Entry e) = some e
-
+-- what the answer says
 abbrev pub protected : Protection → Option Bool
-protected No = some false
-protected Yes = some true
-protected Neither = none
+protected No = Some false
+protected Yes = Some true
+protected Neither = None
 
 -- a header that a record can hold
 pub record MbrOk (h : MBRHeader) : Type 0 where

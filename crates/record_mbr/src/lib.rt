@@ -11,9 +11,9 @@ pub mod writer;
 ghost use Rattle.std.specs.Prelude.{◌≡◌};
 ghost use Rattle.base.specs.Said.{refusal};
 ghost use Rattle.base.specs.Checks.{first-fail};
-ghost use Rattle.record_mbr.specs.Mbr.{primaries, header_checks, new_header, extended_of, primary_of, marked, found, protected};
+ghost use Rattle.record_mbr.specs.Mbr.{primaries, header_checks, new_header, extended_of, primary_of, marked, protected};
 
-use base::{Answer, Refusal};
+use base::Refusal;
 use record_entry::MBRPartitionEntry;
 
 #[derive(Clone, Copy)]
@@ -28,13 +28,6 @@ pub struct MBRHeader {
     pub boot_signature: [u8; 2],
 }
 
-// An entry, or none.
-#[derive(Clone, Copy)]
-pub enum Found {
-    Nothing,
-    Entry(MBRPartitionEntry),
-}
-
 // The copy mark.
 #[derive(Clone, Copy)]
 pub enum Protection {
@@ -47,109 +40,74 @@ impl MBRHeader {
     pub fn new(disk_signature: [u8; 4]) -> MBRHeader
         ensures { result ≡ new_header disk_signature }
     {
-        let none = MBRPartitionEntry::empty();
-        let code = [0u8; 440];
-        let mark = [0u8; 2];
-        let sign = base::SIGNATURE;
         MBRHeader {
-            bootstrap_code: code,
-            disk_signature: disk_signature,
-            copy_protected: mark,
-            partition_1: none,
-            partition_2: none,
-            partition_3: none,
-            partition_4: none,
-            boot_signature: sign,
+            bootstrap_code: [0u8; 440],
+            disk_signature,
+            copy_protected: [0u8; 2],
+            partition_1: MBRPartitionEntry::empty(),
+            partition_2: MBRPartitionEntry::empty(),
+            partition_3: MBRPartitionEntry::empty(),
+            partition_4: MBRPartitionEntry::empty(),
+            boot_signature: base::SIGNATURE,
         }
     }
 
     // Signature 3, flags 4.
-    pub fn check(self) -> Answer
+    pub fn check(self) -> Result<(), Refusal>
         ensures { refusal result ≡ first-fail (header_checks self) }
     {
-        let sign = self.boot_signature;
-        let signed = base::stands_at(&sign, 0, &base::SIGNATURE);
-        let one = self.partition_1;
-        let flagged = one.check();
-        if !signed {
-            return Answer::Refused(Refusal::SIGNATURE);
+        if !base::stands_at(&self.boot_signature, 0, &base::SIGNATURE) {
+            return Err(Refusal::InvalidSignature);
         }
-        if !flagged {
-            return Answer::Refused(Refusal::BOOT_FLAG);
+        if self.partition_1.check()
+            && self.partition_2.check()
+            && self.partition_3.check()
+            && self.partition_4.check()
+        {
+            Ok(())
+        } else {
+            Err(Refusal::InvalidBootFlag)
         }
-        let two = self.partition_2;
-        if !two.check() {
-            return Answer::Refused(Refusal::BOOT_FLAG);
-        }
-        let three = self.partition_3;
-        if !three.check() {
-            return Answer::Refused(Refusal::BOOT_FLAG);
-        }
-        let four = self.partition_4;
-        if !four.check() {
-            return Answer::Refused(Refusal::BOOT_FLAG);
-        }
-        Answer::Done
     }
 
     // The entry of a number from 1 to 4.
-    pub fn get(self, i: usize) -> Found
-        ensures { found result ≡ primary_of self i }
+    pub fn get(self, i: usize) -> Option<MBRPartitionEntry>
+        ensures { result ≡ primary_of self i }
     {
         match i {
-            1 => {
-                let one = self.partition_1;
-                Found::Entry(one)
-            }
-            2 => {
-                let two = self.partition_2;
-                Found::Entry(two)
-            }
-            3 => {
-                let three = self.partition_3;
-                Found::Entry(three)
-            }
-            4 => {
-                let four = self.partition_4;
-                Found::Entry(four)
-            }
-            _ => Found::Nothing,
+            1 => Some(self.partition_1),
+            2 => Some(self.partition_2),
+            3 => Some(self.partition_3),
+            4 => Some(self.partition_4),
+            _ => None,
         }
     }
 
     // The first extended entry.
-    pub fn get_extended_partition(self) -> Found
-        ensures { found result ≡ extended_of (primaries self) }
+    #[tactic(auto, unfolding(crate::specs::Mbr::extended_of))]
+    pub fn get_extended_partition(self) -> Option<MBRPartitionEntry>
+        ensures { result ≡ extended_of (primaries self) }
     {
-        let first = self.partition_1;
-        if first.is_extended() {
-            return Found::Entry(first);
+        if self.partition_1.is_extended() {
+            Some(self.partition_1)
+        } else if self.partition_2.is_extended() {
+            Some(self.partition_2)
+        } else if self.partition_3.is_extended() {
+            Some(self.partition_3)
+        } else if self.partition_4.is_extended() {
+            Some(self.partition_4)
+        } else {
+            None
         }
-        let second = self.partition_2;
-        if second.is_extended() {
-            return Found::Entry(second);
-        }
-        let third = self.partition_3;
-        if third.is_extended() {
-            return Found::Entry(third);
-        }
-        let fourth = self.partition_4;
-        if fourth.is_extended() {
-            return Found::Entry(fourth);
-        }
-        Found::Nothing
     }
 
     pub fn is_copy_protected(self) -> Protection
         ensures { protected result ≡ marked self.copy_protected }
     {
-        let mark = self.copy_protected;
-        if base::stands_at(&mark, 0, b"\x00\x00") {
-            return Protection::No;
+        match self.copy_protected {
+            [0x00, 0x00] => Protection::No,
+            [0x5A, 0x5A] => Protection::Yes,
+            _ => Protection::Neither,
         }
-        if base::stands_at(&mark, 0, b"\x5A\x5A") {
-            return Protection::Yes;
-        }
-        Protection::Neither
     }
 }

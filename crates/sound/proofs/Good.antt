@@ -1,7 +1,7 @@
 -- The chain of a sound table as one row of facts, both ways; what its extended entry is. Assumes nothing.
 use mathlib.Core.Path.{◌≡◌, refl, sym, subst, ◌∙◌}
 use mathlib.Core.Logic.{◌⊎◌, inl, inr}
-use mathlib.Core.Option.{Option, none, some}
+use Rattle.std.specs.Prelude.{Option, None, Some}
 use mathlib.Core.Bool.{Bool, true, false, not}
 use mathlib.Core.List.{List, [], ◌∷◌}
 use Prim.Native.Nat.{ℕ, ◌+◌, ◌≤◌, ◌<◌}
@@ -15,8 +15,6 @@ use Rattle.base.specs.All.{All}
 use Rattle.record_entry.specs.declared.MBRPartitionEntry.{MBRPartitionEntry}
 use Rattle.record_entry.specs.Entry.{used, extended, end_of}
 use Rattle.record_mbr.specs.Mbr.{extended_of}
-use Rattle.table.specs.declared.MaybeSectors.{MaybeSectors}
-use Rattle.table.specs.declared.MaybeSectors.TheVariants.{Absent, Present}
 use Rattle.table.specs.declared.LogicalPartition.{LogicalPartition}
 use Rattle.table.specs.Table.{parts}
 use Rattle.chain.specs.Facts.{at, start, Before}
@@ -71,14 +69,14 @@ place-above l (inr h) = omega (arith, vacant-end l h)
 pub record Span (hi : ℕ) (m : LogicalPartition) : Type 0 where
   pub zone : Zone m
   pub span : ℕ
-  pub sectors : m.ebr_sectors ≡ Present span
+  pub sectors : m.ebr_sectors ≡ Some span
   pub size : 1 ≤ span
   pub ends : at m + span ≤ hi
   pub covers : end m ≤ at m + span
 
 abbrev pub Linked : ℕ → Option LogicalPartition → Type 0
-Linked hi none = Unit {0}
-Linked hi (some m) = Span hi m
+Linked hi None = Unit {0}
+Linked hi (Some m) = Span hi m
 
 pub record Good (hi : ℕ) (l : LogicalPartition) (n : Option LogicalPartition) : Type 0 where
   pub own : Own l
@@ -90,15 +88,15 @@ span_of : (hi : ℕ) (m : LogicalPartition) → Zone m → OfLink (λ n. 1 ≤ n
     → OfLink (λ n. end m ≤ at m + n) (Unit {0}) m.ebr_sectors → Span hi m
 span_of hi m z a b c = go m.ebr_sectors refl a b c
   where
-    go : (s : MaybeSectors) → m.ebr_sectors ≡ s → OfLink (λ n. 1 ≤ n) ⊥ s → OfLink (λ n. at m + n ≤ hi) (Unit {0}) s
+    go : (s : Option ℕ) → m.ebr_sectors ≡ s → OfLink (λ n. 1 ≤ n) ⊥ s → OfLink (λ n. at m + n ≤ hi) (Unit {0}) s
         → OfLink (λ n. end m ≤ at m + n) (Unit {0}) s → Span hi m
-    go Absent q a b c = absurd a
-    go (Present n) q a b c = record { zone = z; span = n; sectors = q; size = a; ends = b; covers = c }
+    go None q a b c = absurd a
+    go (Some n) q a b c = record { zone = z; span = n; sectors = q; size = a; ends = b; covers = c }
 
 good-row : (hi : ℕ) (l : LogicalPartition) (ls : List LogicalPartition) → All Flagged (parts (l ∷ ls)) → All LogicalChs (l ∷ ls)
-    → All (λ x. ¬ (Extended x.partition)) (l ∷ ls) → Place l → All Zone ls → Row (EndsBy hi) (l ∷ ls) none
+    → All (λ x. ¬ (Extended x.partition)) (l ∷ ls) → Place l → All Zone ls → Row (EndsBy hi) (l ∷ ls) None
     → All (λ x. OfLink (λ n. 1 ≤ n) ⊥ x.ebr_sectors) ls → All (λ x. OfLink (λ n. at x + n ≤ hi) (Unit {0}) x.ebr_sectors) ls
-    → All (λ x. OfLink (λ n. end x ≤ at x + n) (Unit {0}) x.ebr_sectors) ls → Row (Good hi) (l ∷ ls) none
+    → All (λ x. OfLink (λ n. end x ≤ at x + n) (Unit {0}) x.ebr_sectors) ls → Row (Good hi) (l ∷ ls) None
 good-row hi l [] f c p w z e i j k = (record { own = record { flag = f.0; chs = c.0; plain = p.0 }; place = w; ends = e.0; linked = tt }, tt)
 good-row hi l (m ∷ ms) f c p w z e i j k = (
   record {
@@ -123,26 +121,26 @@ zones-parts l ls a = go (vacantb l) refl a
     go true q a = (inr q, a)
     go false q a = (inl a.0, a.1)
 
-pub sound-first : (t : Contents) (e : MBRPartitionEntry) → Sound t → extended_entry t ≡ some e → FirstAt e.starting_lba t.logicals
+pub sound-first : (t : Contents) (e : MBRPartitionEntry) → Sound t → extended_entry t ≡ Some e → FirstAt e.starting_lba t.logicals
 unfolding area_start
 sound-first t e s x = rw x at s.first
 
-pub sound-row : (t : Contents) (e : MBRPartitionEntry) → Sound t → extended_entry t ≡ some e → Row (Good (end_of e)) t.logicals none
+pub sound-row : (t : Contents) (e : MBRPartitionEntry) → Sound t → extended_entry t ≡ Some e → Row (Good (end_of e)) t.logicals None
 unfolding area_end
 sound-row t e s x =
     go t.logicals s.flags.1 s.addresses.1 s.plain (all-zones (zones t.logicals) s.used s.sized s.behind) (rw x at s.ends) s.link-sized (rw x at s.link-ends)
     s.link-covers
   where
     go : (ls : List LogicalPartition) → All Flagged (parts ls) → All LogicalChs ls → All (λ x. ¬ (Extended x.partition)) ls → All Zone (zones ls)
-        → Row (EndsBy (end_of e)) ls none → All (λ x. OfLink (λ n. 1 ≤ n) ⊥ x.ebr_sectors) (later ls)
+        → Row (EndsBy (end_of e)) ls None → All (λ x. OfLink (λ n. 1 ≤ n) ⊥ x.ebr_sectors) (later ls)
         → All (λ x. OfLink (λ n. at x + n ≤ end_of e) (Unit {0}) x.ebr_sectors) (later ls)
-        → All (λ x. OfLink (λ n. end x ≤ at x + n) (Unit {0}) x.ebr_sectors) (later ls) → Row (Good (end_of e)) ls none
+        → All (λ x. OfLink (λ n. end x ≤ at x + n) (Unit {0}) x.ebr_sectors) (later ls) → Row (Good (end_of e)) ls None
     go [] f c p z r i j k = tt
     go (l ∷ ls) f c p z r i j k =
         let w = zones-parts l ls z in
         good-row (end_of e) l ls f c p w.0 w.1 r i j k
 
-of-link : (P : ℕ → Type 0) (Q : Type 0) (s : MaybeSectors) (n : ℕ) → s ≡ Present n → P n → OfLink P Q s
+of-link : (P : ℕ → Type 0) (Q : Type 0) (s : Option ℕ) (n : ℕ) → s ≡ Some n → P n → OfLink P Q s
 of-link P Q s n e p = subst (OfLink P Q) (sym e) p
 
 -- the other way
@@ -156,14 +154,14 @@ module _ (hi : ℕ) where
   row-all P f [] n g = tt
   row-all P f (l ∷ ls) n g = (f l (next ls n) g.0, row-all P f ls n g.1)
 
-  row-links : (P : LogicalPartition → Type 0) → ((m : LogicalPartition) → Span hi m → P m) → (ls : List LogicalPartition) → Row (Good hi) ls none
+  row-links : (P : LogicalPartition → Type 0) → ((m : LogicalPartition) → Span hi m → P m) → (ls : List LogicalPartition) → Row (Good hi) ls None
       → All P (later ls)
   row-links P f [] g = tt
   row-links P f (l ∷ []) g = tt
   row-links P f (l ∷ m ∷ ms) g = (f m g.0.linked, row-links P f (m ∷ ms) g.1)
 
   -- those with a partition are zones
-  row-zones : (P : LogicalPartition → Type 0) → ((l : LogicalPartition) → Zone l → P l) → (ls : List LogicalPartition) → Row (Good hi) ls none → All P (zones ls)
+  row-zones : (P : LogicalPartition → Type 0) → ((l : LogicalPartition) → Zone l → P l) → (ls : List LogicalPartition) → Row (Good hi) ls None → All P (zones ls)
   unfolding zones
   row-zones P f [] g = tt
   row-zones P f (l ∷ ls) g = go (vacantb l) refl g.0.place
@@ -180,17 +178,17 @@ module _ (hi : ℕ) where
           absurd (omega arith)
 
   before-good : (l : LogicalPartition) (n : Option LogicalPartition) → Good hi l n → Before l n
-  before-good l none g = tt
-  before-good l (some m) g = omega (arith, place-above l g.place, g.ends)
+  before-good l None g = tt
+  before-good l (Some m) g = omega (arith, place-above l g.place, g.ends)
 
   -- a sound table's chain may be exchanged for any row of good ones
-  pub resound : (t : Contents) (e : MBRPartitionEntry) → end_of e ≡ hi → Sound t → extended_entry t ≡ some e → (ls : List LogicalPartition)
-      → FirstAt e.starting_lba ls → Row (Good hi) ls none → Sound (record { width = t.width; size = t.size; header = t.header; logicals = ls })
+  pub resound : (t : Contents) (e : MBRPartitionEntry) → end_of e ≡ hi → Sound t → extended_entry t ≡ Some e → (ls : List LogicalPartition)
+      → FirstAt e.starting_lba ls → Row (Good hi) ls None → Sound (record { width = t.width; size = t.size; header = t.header; logicals = ls })
   unfolding area_start area_end
   resound t e h s x ls f g = record {
     signed = s.signed;
-    flags = (s.flags.0, row-parts ls none g);
-    addresses = (s.addresses.0, row-all LogicalChs (λ l n k. k.own.chs) ls none g);
+    flags = (s.flags.0, row-parts ls None g);
+    addresses = (s.addresses.0, row-all LogicalChs (λ l n k. k.own.chs) ls None g);
     starts = s.starts;
     sizes = s.sizes;
     on-disk = s.on-disk;
@@ -198,12 +196,12 @@ module _ (hi : ℕ) where
     one = s.one;
     owned = rw x tt;
     used = row-zones _ (λ l z. z.used) ls g;
-    plain = row-all _ (λ l n k. k.own.plain) ls none g;
+    plain = row-all _ (λ l n k. k.own.plain) ls None g;
     sized = row-zones _ (λ l z. z.size) ls g;
     behind = row-zones _ (λ l z. z.after) ls g;
-    ends = rw (x, h) (row-map (Good hi) (EndsBy hi) (λ l n k. k.ends) ls none g);
+    ends = rw (x, h) (row-map (Good hi) (EndsBy hi) (λ l n k. k.ends) ls None g);
     first = rw x f;
-    ascend = row-map (Good hi) Before before-good ls none g;
+    ascend = row-map (Good hi) Before before-good ls None g;
     link-sized = row-links _ (λ m k. of-link _ _ m.ebr_sectors k.span k.sectors k.size) ls g;
     link-ends = rw (x, h) (row-links _ (λ m k. of-link (λ n. at m + n ≤ hi) _ m.ebr_sectors k.span k.sectors k.ends) ls g);
     link-covers = row-links _ (λ m k. of-link (λ n. end m ≤ at m + n) _ m.ebr_sectors k.span k.sectors k.covers) ls g;
@@ -242,22 +240,22 @@ extended-used k h = go (eqb k 0) refl
         absurd (omega arith)
 
 module _ (P : MBRPartitionEntry → Type 0) (e : MBRPartitionEntry) where
-  pub ext-go : (p : MBRPartitionEntry) (ps : List MBRPartitionEntry) (b : Bool) → extended p.sys ≡ b → pick b (some p) (extended_of ps) ≡ some e
-      → ((p ≡ e) × Extended p) ⊎ ((extended p.sys ≡ false) × (extended_of ps ≡ some e))
+  pub ext-go : (p : MBRPartitionEntry) (ps : List MBRPartitionEntry) (b : Bool) → extended p.sys ≡ b → pick b (Some p) (extended_of ps) ≡ Some e
+      → ((p ≡ e) × Extended p) ⊎ ((extended p.sys ≡ false) × (extended_of ps ≡ Some e))
   ext-go p ps true q h = inl (cc, q)
   ext-go p ps false q h = inr (q, h)
 
   -- the extended entry is one of the list, and has what all of them have
-  pub ext-all : (ps : List MBRPartitionEntry) → All P ps → extended_of ps ≡ some e → P e × Extended e
+  pub ext-all : (ps : List MBRPartitionEntry) → All P ps → extended_of ps ≡ Some e → P e × Extended e
   unfolding extended_of
   ext-all [] a h = let w : ◌≡◌ {A = ℕ} 0 1 = cc in absurd (omega arith)
   ext-all (p ∷ ps) a h = go (ext-all ps a.1) (ext-go p ps (extended p.sys) refl h)
     where
-      go : (extended_of ps ≡ some e → P e × Extended e) → ((p ≡ e) × Extended p) ⊎ ((extended p.sys ≡ false) × (extended_of ps ≡ some e)) → P e × Extended e
+      go : (extended_of ps ≡ Some e → P e × Extended e) → ((p ≡ e) × Extended p) ⊎ ((extended p.sys ≡ false) × (extended_of ps ≡ Some e)) → P e × Extended e
       go ih (inl q) = (subst P q.0 a.0, subst Extended q.0 q.1)
       go ih (inr q) = ih q.1
 
-pub area_of : (t : Contents) (e : MBRPartitionEntry) → Sound t → extended_entry t ≡ some e → Area t.size e
+pub area_of : (t : Contents) (e : MBRPartitionEntry) → Sound t → extended_entry t ≡ Some e → Area t.size e
 area_of t e s x =
     let a = ext-all (λ p. Used p → 1 ≤ p.starting_lba) e (primaries_of t) s.starts x in
     let b = ext-all (λ p. Used p → 1 ≤ p.sectors) e (primaries_of t) s.sizes x in

@@ -1,7 +1,7 @@
 -- The test of each rule says just that rule, and the whole test says sound. Assumes nothing.
 use mathlib.Core.Path.{◌≡◌, refl}
 use mathlib.Core.Logic.{inl, inr}
-use mathlib.Core.Option.{Option, none, some}
+use Rattle.std.specs.Prelude.{Option, None, Some}
 use mathlib.Core.Bool.{Bool, true, false}
 use mathlib.Core.List.{List, [], ◌∷◌}
 use Prim.Native.Nat.{ℕ, ◌+◌, ◌≤◌}
@@ -12,10 +12,6 @@ use Rattle.base.specs.Checks.{Check, checked, AllHold}
 use Rattle.record_chs.specs.declared.CHS.{CHS}
 use Rattle.record_entry.specs.declared.MBRPartitionEntry.{MBRPartitionEntry}
 use Rattle.record_entry.specs.Entry.{flag_ok, used, extended, end_of}
-use Rattle.table.specs.declared.MaybeSectors.{MaybeSectors}
-use Rattle.table.specs.declared.MaybeSectors.TheVariants.{Absent, Present}
-use Rattle.table.specs.declared.MaybeChs.{MaybeChs}
-use Rattle.table.specs.declared.MaybeChs.TheVariants.{Absent as NoChs, Present as SomeChs}
 use Rattle.table.specs.declared.LogicalPartition.{LogicalPartition}
 use Rattle.table.specs.Table.{parts}
 use Rattle.chain.specs.Facts.{at, start, Before}
@@ -34,9 +30,9 @@ is-flag e = go (eqb e.boot 0) (eqb e.boot 128) (is_eq e.boot 0) (is_eq e.boot 12
 is_within : (c : CHS) → Is (Within c) (withinb c)
 is_within c = is-and _ _ _ _ (is_le c.cylinder 1023) (is_le c.sector 63)
 
-is-there : (m : MaybeChs) → Is (IfThere m) (if_thereb m)
-is-there NoChs = is-unit
-is-there (SomeChs c) = is_within c
+is-there : (m : Option CHS) → Is (IfThere m) (if_thereb m)
+is-there None = is-unit
+is-there (Some c) = is_within c
 
 pub is-entry-chs : (e : MBRPartitionEntry) → Is (EntryChs e) (entry_chsb e)
 is-entry-chs e = is-and _ _ _ _ (is_within e.first_chs) (is_within e.last_chs)
@@ -54,9 +50,9 @@ is-not-both e f = is-if _ _ _ _ (is_true (extended e.sys)) (is-not _ _ (is_true 
 
 is-owned : (o : Option MBRPartitionEntry) (ls : List LogicalPartition) → Is (Owned o ls) (ownedb o ls)
 unfolding ownedb
-is-owned none [] = is-unit
-is-owned none (l ∷ ls) = is_never
-is-owned (some e) ls = is-unit
+is-owned None [] = is-unit
+is-owned None (l ∷ ls) = is_never
+is-owned (Some e) ls = is-unit
 
 is-first : (X : ℕ) (ls : List LogicalPartition) → Is (FirstAt X ls) (first_atb X ls)
 unfolding first_atb
@@ -64,12 +60,12 @@ is-first X [] = is-unit
 is-first X (l ∷ ls) = is_eq (at l) X
 
 is-before : (l : LogicalPartition) (n : Option LogicalPartition) → Is (Before l n) (beforeb l n)
-is-before l none = is-unit
-is-before l (some m) = is_lt (at l) (at m)
+is-before l None = is-unit
+is-before l (Some m) = is_lt (at l) (at m)
 
-pub is-link : (P : ℕ → Type 0) (p : ℕ → Bool) (Q : Type 0) (b : Bool) → ((n : ℕ) → Is (P n) (p n)) → Is Q b → (m : MaybeSectors) → Is (OfLink P Q m) (of_linkb p b m)
-is-link P p Q b k j Absent = j
-is-link P p Q b k j (Present n) = k n
+pub is-link : (P : ℕ → Type 0) (p : ℕ → Bool) (Q : Type 0) (b : Bool) → ((n : ℕ) → Is (P n) (p n)) → Is Q b → (m : Option ℕ) → Is (OfLink P Q m) (of_linkb p b m)
+is-link P p Q b k j None = j
+is-link P p Q b k j (Some n) = k n
 
 module _ (t : Contents) where
   pub is_signed : Is (Signed t) (signedb t)
@@ -124,11 +120,11 @@ module _ (t : Contents) where
 
   pub is-ends : Is (Ends t) (endsb t)
   unfolding endsb
-  is-ends = is_row _ _ (λ l n. is_le (end l) (bound (area_end (extended_entry t)) n)) t.logicals none
+  is-ends = is_row _ _ (λ l n. is_le (end l) (bound (area_end (extended_entry t)) n)) t.logicals None
 
   pub is-ascend : Is (Ascend t) (ascendb t)
   unfolding ascendb
-  is-ascend = is_row Before beforeb is-before t.logicals none
+  is-ascend = is_row Before beforeb is-before t.logicals None
 
   pub is-links-sized : Is (LinksSized t) (links_sizedb t)
   unfolding links_sizedb

@@ -1,7 +1,7 @@
 -- The rules in the code's order are rules S1 to S19. Assumes nothing.
 use mathlib.Core.Path.{◌≡◌, refl, sym, subst, ◌∙◌}
 use mathlib.Core.Logic.{◌⊎◌, inl, inr}
-use mathlib.Core.Option.{Option, none, some}
+use Rattle.std.specs.Prelude.{Option, None, Some}
 use mathlib.Core.Bool.{Bool, true, false, ◌&&◌}
 use mathlib.Core.List.{List, [], ◌∷◌}
 use Prim.Native.Nat.{ℕ, zero, suc, ◌+◌, ◌≤◌, ◌<◌}
@@ -9,19 +9,17 @@ use native.Mathlib.Omega.{arith}
 use native.Mathlib.Numerals.{add-one}
 use lib.Dec.{leb, eqb}
 use lib.ListN.{length, get_or, take, drop, drop_of_length-le}
-use lib.Seq.{length-take-le, drop-cons, get_or-take}
+use lib.Seq.{drop-cons}
 use borrow.Author.Tests.{ne_eqb}
 use Rattle.base.specs.Row.{Row}
-use Rattle.base.specs.All.{All}
+use Rattle.base.specs.All.{All, allb}
+use Rattle.base.specs.Bytes.{stands_at, signature}
 use Rattle.record_entry.specs.declared.MBRPartitionEntry.{MBRPartitionEntry}
 use Rattle.record_entry.specs.Entry.{used, extended, end_of}
-use Rattle.table.specs.declared.MaybeSectors.{MaybeSectors}
-use Rattle.table.specs.declared.MaybeSectors.TheVariants.{Absent, Present}
 use Rattle.table.specs.declared.LogicalPartition.{LogicalPartition}
-use Rattle.table.specs.Table.{no_logical}
 use Rattle.chain.specs.Facts.{at, start}
-use Rattle.sound.specs.Is.{Is, Pairs}
-use Rattle.sound.specs.Sound.{Contents, primaries_of, extended_entry, vacantb, end, zones, Signed, Flagged, EntryChs, LogicalChs, Used, Apart, Extended, NotBoth, Owned, FirstAt, OfLink, Sound, soundb}
+use Rattle.sound.specs.Is.{Is, Pairs, pairsb}
+use Rattle.sound.specs.Sound.{Contents, primaries_of, extended_entry, vacantb, end, zones, Signed, signedb, Flagged, EntryChs, LogicalChs, Used, Apart, Extended, NotBoth, Owned, FirstAt, OfLink, Sound, soundb}
 use Rattle.sound.specs.Walk.{spanb, primaryb, pairb, ownb, zoneb, placeb, coverb, linkb, turnb, standb, rowsb, chainb, walkb}
 use Rattle.sound.proofs.Is.{is_lt, is_le, is_eq, is_true, is-unit, is_never, is-not, is-and, is-or, is-if, is_all, is-pairs}
 use Rattle.sound.proofs.Test.{is-flag, is-entry-chs, is-logical-chs, is-apart, is-not-both, is-link, is_signed, is-sound}
@@ -32,9 +30,9 @@ bool-ext true b f g = sym (f refl)
 bool-ext false true f g = g refl
 bool-ext false false f g = refl
 
-pub and-true : (b : Bool) → b && true ≡ b
-and-true true = refl
-and-true false = refl
+pub and_true : (b : Bool) → b && true ≡ b
+and_true true = refl
+and_true false = refl
 
 -- the tests as facts
 abbrev InSpan : ℕ → MBRPartitionEntry → Type 0
@@ -73,9 +71,9 @@ Rows hi first from [] = from ≤ hi
 Rows hi first from (l ∷ ls) = Stand hi first from l × Rows hi false (end l) ls
 
 abbrev Chain : Option MBRPartitionEntry → List LogicalPartition → Type 0
-Chain none [] = Unit {0}
-Chain none (l ∷ ls) = ⊥
-Chain (some e) ls = Rows (end_of e) true e.starting_lba ls
+Chain None [] = Unit {0}
+Chain None (l ∷ ls) = ⊥
+Chain (Some e) ls = Rows (end_of e) true e.starting_lba ls
 
 is-primary : (D : ℕ) (e : MBRPartitionEntry) → Is (Primary D e) (primaryb D e)
 unfolding primaryb spanb
@@ -123,9 +121,9 @@ is-rows hi first from (l ∷ ls) = is-and _ _ _ _ (is-stand hi first from l) (is
 
 is-chain : (o : Option MBRPartitionEntry) (ls : List LogicalPartition) → Is (Chain o ls) (chainb o ls)
 unfolding chainb
-is-chain none [] = is-unit
-is-chain none (l ∷ ls) = is_never
-is-chain (some e) ls = is-rows (end_of e) true e.starting_lba ls
+is-chain None [] = is-unit
+is-chain None (l ∷ ls) = is_never
+is-chain (Some e) ls = is-rows (end_of e) true e.starting_lba ls
 
 abbrev Walk : Contents → Type 0
 Walk t = Signed t × (All (Primary t.size) (primaries_of t) × (Pairs Pair (primaries_of t) × Chain (extended_entry t) t.logicals))
@@ -141,9 +139,9 @@ is-walk t =
 span-in : (hi : ℕ) (m : LogicalPartition) → Zone m → Link hi m → Span hi m
 span-in hi m z k = go m.ebr_sectors refl k
   where
-    go : (s : MaybeSectors) → m.ebr_sectors ≡ s → OfLink (Covers hi m) ⊥ s → Span hi m
-    go Absent q k = absurd k
-    go (Present n) q k = record { zone = z; span = n; sectors = q; size = k.0; ends = k.1.0; covers = k.1.1 }
+    go : (s : Option ℕ) → m.ebr_sectors ≡ s → OfLink (Covers hi m) ⊥ s → Span hi m
+    go None q k = absurd k
+    go (Some n) q k = record { zone = z; span = n; sectors = q; size = k.0; ends = k.1.0; covers = k.1.1 }
 
 in_span : (hi : ℕ) (m : LogicalPartition) → Span hi m → Link hi m
 in_span hi m s = subst (OfLink (Covers hi m) ⊥) (sym s.sectors) (s.size, (s.ends, s.covers))
@@ -163,7 +161,7 @@ later-zone : (l : LogicalPartition) → Stays false l → Zone l
 later-zone l (inl b) = zone-of l b
 later-zone l (inr v) = let w : ◌≡◌ {A = Bool} false true = v.0 in let n : ◌≡◌ {A = ℕ} 0 1 = cc in absurd (omega arith)
 
-rows→good : (hi : ℕ) (first : Bool) (from : ℕ) (ls : List LogicalPartition) → Rows hi first from ls → Row (Good hi) ls none
+rows→good : (hi : ℕ) (first : Bool) (from : ℕ) (ls : List LogicalPartition) → Rows hi first from ls → Row (Good hi) ls None
 rows→good hi first from [] r = tt
 rows→good hi first from (l ∷ []) (s, r) = (record { own = own_of l s.0; place = place_of first l s.1.0; ends = r; linked = tt }, tt)
 rows→good hi first from (l ∷ m ∷ ms) (s, (k, r)) = (
@@ -181,11 +179,11 @@ stays_of l (inr v) = inr (refl, v)
 stand_of : (hi : ℕ) (first : Bool) (from : ℕ) (l : LogicalPartition) (n : Option LogicalPartition) → Stays first l → Turn hi first from l → Good hi l n → Stand hi first from l
 stand_of hi first from l n w t g = ((g.own.flag, (g.own.chs, g.own.plain)), (w, t))
 
-good→rows : (hi : ℕ) (first : Bool) (from : ℕ) (l : LogicalPartition) (ls : List LogicalPartition) → Stays first l → Turn hi first from l → Row (Good hi) (l ∷ ls) none
+good→rows : (hi : ℕ) (first : Bool) (from : ℕ) (l : LogicalPartition) (ls : List LogicalPartition) → Stays first l → Turn hi first from l → Row (Good hi) (l ∷ ls) None
     → Rows hi first from (l ∷ ls)
-good→rows hi first from l [] w t (g, r) = (stand_of hi first from l none w t g, g.ends)
+good→rows hi first from l [] w t (g, r) = (stand_of hi first from l None w t g, g.ends)
 good→rows hi first from l (m ∷ ms) w t (g, r) = (
-  stand_of hi first from l (some m) w t g,
+  stand_of hi first from l (Some m) w t g,
   good→rows hi false (end l) m ms (inl (behind-of m g.linked.zone)) (g.ends, in_span hi m g.linked) r,
 )
 
@@ -193,7 +191,7 @@ rows-first : (hi : ℕ) (from : ℕ) (ls : List LogicalPartition) → Rows hi tr
 rows-first hi from [] r = tt
 rows-first hi from (l ∷ ls) r = r.0.1.1
 
-first_rows : (e : MBRPartitionEntry) (ls : List LogicalPartition) → FirstAt e.starting_lba ls → Row (Good (end_of e)) ls none
+first_rows : (e : MBRPartitionEntry) (ls : List LogicalPartition) → FirstAt e.starting_lba ls → Row (Good (end_of e)) ls None
     → Rows (end_of e) true e.starting_lba ls
 first_rows e [] f r = omega arith
 first_rows e (l ∷ ls) f r = good→rows (end_of e) true e.starting_lba l ls (stays_of l r.0.place) f r
@@ -222,8 +220,8 @@ bare t = record { width = t.width; size = t.size; header = t.header; logicals = 
 
 module _ (t : Contents) where
   owned-none : (o : Option MBRPartitionEntry) → Owned o []
-  owned-none none = tt
-  owned-none (some e) = tt
+  owned-none None = tt
+  owned-none (Some e) = tt
 
   bare-sound : Signed t → All (Primary t.size) (primaries_of t) → Pairs Pair (primaries_of t) → Sound (bare t)
   unfolding zones
@@ -251,18 +249,18 @@ module _ (t : Contents) where
 
   chain-sound : (o : Option MBRPartitionEntry) → extended_entry t ≡ o → Sound (bare t) → (ls : List LogicalPartition) → Chain o ls
       → Sound (record { width = t.width; size = t.size; header = t.header; logicals = ls })
-  chain-sound none x s [] k = s
-  chain-sound none x s (l ∷ ls) k = absurd k
-  chain-sound (some e) x s ls k =
+  chain-sound None x s [] k = s
+  chain-sound None x s (l ∷ ls) k = absurd k
+  chain-sound (Some e) x s ls k =
       resound (end_of e) (bare t) e refl s x ls (rows-first (end_of e) e.starting_lba ls k) (rows→good (end_of e) true e.starting_lba ls k)
 
   sound-chain : (o : Option MBRPartitionEntry) → extended_entry t ≡ o → Sound t → Chain o t.logicals
-  sound-chain none x s = go t.logicals (rw x at s.owned)
+  sound-chain None x s = go t.logicals (rw x at s.owned)
     where
-      go : (ls : List LogicalPartition) → Owned none ls → Chain none ls
+      go : (ls : List LogicalPartition) → Owned None ls → Chain None ls
       go [] k = tt
       go (l ∷ ls) k = k
-  sound-chain (some e) x s = first_rows e t.logicals (sound-first t e s x) (sound-row t e s x)
+  sound-chain (Some e) x s = first_rows e t.logicals (sound-first t e s x) (sound-row t e s x)
 
   walk→sound : Walk t → Sound t
   walk→sound (s, (a, (p, k))) = chain-sound (extended_entry t) refl (bare-sound s a p) t.logicals k
@@ -285,41 +283,40 @@ module _ (t : Contents) where
   )
 
   -- the code's order is as good as that of rules S1 to S19
-  pub walk-sound : walkb t ≡ soundb t
+  walk-sound : walkb t ≡ soundb t
   walk-sound = bool-ext (walkb t) (soundb t) (λ h. (is-sound t).from (walk→sound ((is-walk t).to h))) (λ h. (is-walk t).from (sound→walk ((is-sound t).to h)))
 
--- a turn of the loop over the first n of a table's slots
-module _ (hi n : ℕ) (ls : List LogicalPartition) (k : n ≤ length ls) where
-  abbrev slot : ℕ → LogicalPartition
-  slot i = get_or ls i no_logical
+-- the parts of the test
+pub sound_parts : (t : Contents)
+    → soundb t ≡ stands_at t.header.boot_signature 0 signature && (allb (primaryb t.size) (primaries_of t) && (pairsb pairb (primaries_of t) && chainb (extended_entry t) t.logicals))
+unfolding walkb signedb
+sound_parts t = sym (walk-sound t)
 
-  row_step : (first : Bool) (from i : ℕ) → i < n
-      → rowsb hi first from (drop i (take n ls)) ≡ standb hi first from (slot i) && rowsb hi false (end (slot i)) (drop (i + 1) (take n ls))
+-- a turn of a loop over a list
+module _ (hi : ℕ) (ls : List LogicalPartition) (d : LogicalPartition) where
+  row_step : (first : Bool) (from i : ℕ) → i < length ls
+      → rowsb hi first from (drop i ls) ≡ standb hi first from (get_or ls i d) && rowsb hi false (end (get_or ls i d)) (drop (i + 1) ls)
   unfolding rowsb
   row_step first from i h =
-      let g : i < length (take n ls) = rw (length-take-le n ls k) h in
-      let d = drop-cons (take n ls) i no_logical g in
-      let e = get_or-take n ls i no_logical h in
-      rw (add-one, d, e)
+      let e = drop-cons ls i d h in
+      rw (add-one, e)
 
-  pub row-again : (from i : ℕ) → i < n → standb hi (eqb i 0) from (slot i) ≡ true
-      → rowsb hi (eqb i 0) from (drop i (take n ls)) ≡ rowsb hi (eqb (i + 1) 0) (end (slot i)) (drop (i + 1) (take n ls))
-  row-again from i h s =
+  pub row_again : (from i : ℕ) → i < length ls → standb hi (eqb i 0) from (get_or ls i d) ≡ true
+      → rowsb hi (eqb i 0) from (drop i ls) ≡ rowsb hi (eqb (i + 1) 0) (end (get_or ls i d)) (drop (i + 1) ls)
+  row_again from i h s =
       let z : eqb (i + 1) 0 ≡ false = ne_eqb (i + 1) 0 (λ q. omega arith) in
       row_step (eqb i 0) from i h ∙ rw (s, z)
 
-  pub row-stop : (from i : ℕ) → i < n → standb hi (eqb i 0) from (slot i) ≡ false → rowsb hi (eqb i 0) from (drop i (take n ls)) ≡ false
-  row-stop from i h s = row_step (eqb i 0) from i h ∙ rw s
+  pub row_stop : (from i : ℕ) → i < length ls → standb hi (eqb i 0) from (get_or ls i d) ≡ false → rowsb hi (eqb i 0) from (drop i ls) ≡ false
+  row_stop from i h s = row_step (eqb i 0) from i h ∙ rw s
 
-  pub row-end : (first : Bool) (from i : ℕ) → n ≤ i → rowsb hi first from (drop i (take n ls)) ≡ leb from hi
-  unfolding rowsb
-  row-end first from i h =
-      let g : length (take n ls) ≤ i = rw (length-take-le n ls k) h in
-      rw (drop_of_length-le (take n ls) g)
+pub row_end : (hi : ℕ) (ls : List LogicalPartition) (first : Bool) (from i : ℕ) → length ls ≤ i → rowsb hi first from (drop i ls) ≡ leb from hi
+unfolding rowsb
+row_end hi ls first from i h = rw (drop_of_length-le ls h)
 
 -- no extended entry: no logical partitions
-pub chain-none : (n : ℕ) (ls : List LogicalPartition) → n ≤ length ls → eqb n 0 ≡ chainb none (take n ls)
+pub chain_none : (n : ℕ) (ls : List LogicalPartition) → n ≤ length ls → eqb n 0 ≡ chainb None (take n ls)
 unfolding chainb
-chain-none zero ls h = refl
-chain-none (suc n) [] h = absurd (omega arith)
-chain-none (suc n) (l ∷ ls) h = ne_eqb (suc n) 0 (λ q. omega arith)
+chain_none zero ls h = refl
+chain_none (suc n) [] h = absurd (omega arith)
+chain_none (suc n) (l ∷ ls) h = ne_eqb (suc n) 0 (λ q. omega arith)

@@ -1,6 +1,6 @@
 -- Facts and their tests; facts about every two elements. Assumes nothing.
 use Rattle.std.specs.Prelude.{◌≡◌, Bool, true, ◌&&◌, List, [], ◌∷◌}
-use Rattle.std.proofs.Math.Option.{Option}
+use Rattle.std.specs.Prelude.{Option}
 use Rattle.base.specs.Row.{next}
 use Rattle.base.specs.All.{All, allb}
 

@@ -1,7 +1,6 @@
 -- Sound tables: rules S1 to S19 one by one in their order, each as a fact and as a test. Assumes nothing.
 use Rattle.std.specs.Prelude.{ℕ, ◌+◌, ◌≤◌, ◌<◌, ◌≡◌, ◌⊎◌, Bool, true, false, not, ◌&&◌, ◌||◌, List, [], ◌∷◌, ltb, leb, eqb, get_or}
-use Rattle.std.proofs.Math.Option
-use Rattle.std.proofs.Math.Option.{Option, none, some}
+use Rattle.std.specs.Prelude.{Option, None, Some, unwrap_or}
 use Rattle.base.specs.Pick.{pick}
 use Rattle.base.specs.Bytes.{stands_at, signature}
 use Rattle.base.specs.Said.{Said}
@@ -13,10 +12,6 @@ use Rattle.record_entry.specs.declared.MBRPartitionEntry.{MBRPartitionEntry}
 use Rattle.record_entry.specs.Entry.{no_entry, flag_ok, used, extended, end_of}
 use Rattle.record_mbr.specs.declared.MBRHeader.{MBRHeader}
 use Rattle.record_mbr.specs.Mbr.{primaries, extended_of}
-use Rattle.table.specs.declared.MaybeSectors.{MaybeSectors}
-use Rattle.table.specs.declared.MaybeSectors.TheVariants.{Absent, Present}
-use Rattle.table.specs.declared.MaybeChs.{MaybeChs}
-use Rattle.table.specs.declared.MaybeChs.TheVariants.{Absent as NoChs, Present as SomeChs}
 use Rattle.table.specs.declared.LogicalPartition.{LogicalPartition}
 use Rattle.table.specs.declared.MBR.{MBR}
 use Rattle.table.specs.Table.{count_check, logicals, parts}
@@ -42,10 +37,10 @@ extended_entry t = extended_of (primaries_of t)
 
 -- the extended partition's start X and end
 unfoldable pub area_start : Option MBRPartitionEntry → ℕ
-area_start o = (Option.get_or o no_entry).starting_lba
+area_start o = (unwrap_or o no_entry).starting_lba
 
 unfoldable pub area_end : Option MBRPartitionEntry → ℕ
-area_end o = end_of (Option.get_or o no_entry)
+area_end o = end_of (unwrap_or o no_entry)
 
 -- rule S31: an EBR without a partition: type 0, the start on the EBR itself, no sectors
 pub record Vacant (l : LogicalPartition) : Type 0 where
@@ -92,14 +87,14 @@ Within c = (c.cylinder ≤ 1023) × (c.sector ≤ 63)
 abbrev pub withinb : CHS → Bool
 withinb c = leb c.cylinder 1023 && leb c.sector 63
 
-abbrev pub IfThere : MaybeChs → Type 0
-IfThere NoChs = Unit {0}
-IfThere (SomeChs c) = Within c
+abbrev pub IfThere : Option CHS → Type 0
+IfThere None = Unit {0}
+IfThere (Some c) = Within c
 
 -- rule S3
-abbrev pub if_thereb : MaybeChs → Bool
-if_thereb NoChs = true
-if_thereb (SomeChs c) = withinb c
+abbrev pub if_thereb : Option CHS → Bool
+if_thereb None = true
+if_thereb (Some c) = withinb c
 
 abbrev pub EntryChs : MBRPartitionEntry → Type 0
 EntryChs e = Within e.first_chs × Within e.last_chs
@@ -175,14 +170,14 @@ one_extendedb t = pairsb not_bothb (primaries_of t)
 
 -- rule S9: no logicals without it
 abbrev pub Owned : Option MBRPartitionEntry → List LogicalPartition → Type 0
-Owned none [] = Unit {0}
-Owned none (l ∷ ls) = ⊥
-Owned (some e) ls = Unit {0}
+Owned None [] = Unit {0}
+Owned None (l ∷ ls) = ⊥
+Owned (Some e) ls = Unit {0}
 
 unfoldable pub ownedb : Option MBRPartitionEntry → List LogicalPartition → Bool
-ownedb none [] = true
-ownedb none (l ∷ ls) = false
-ownedb (some e) ls = true
+ownedb None [] = true
+ownedb None (l ∷ ls) = false
+ownedb (Some e) ls = true
 
 -- rules S10 to S13: each logical is used, not extended, has at least 1 sector, starts after its EBR; a first EBR without a partition need not be used, sized or behind itself
 abbrev pub LogicalsUsed : Contents → Type 0
@@ -211,17 +206,17 @@ after_ebrb t = allb (λ l. ltb (at l) (start l)) (zones t.logicals)
 
 -- rule S14: ends by the next EBR or the extended end
 abbrev pub bound : ℕ → Option LogicalPartition → ℕ
-bound hi none = hi
-bound hi (some m) = at m
+bound hi None = hi
+bound hi (Some m) = at m
 
 abbrev pub EndsBy : ℕ → LogicalPartition → Option LogicalPartition → Type 0
 EndsBy hi l n = end l ≤ bound hi n
 
 abbrev pub Ends : Contents → Type 0
-Ends t = Row (EndsBy (area_end (extended_entry t))) t.logicals none
+Ends t = Row (EndsBy (area_end (extended_entry t))) t.logicals None
 
 unfoldable pub endsb : Contents → Bool
-endsb t = rowb (λ l n. leb (end l) (bound (area_end (extended_entry t)) n)) t.logicals none
+endsb t = rowb (λ l n. leb (end l) (bound (area_end (extended_entry t)) n)) t.logicals None
 
 -- rule S15: the first EBR is at X
 abbrev pub FirstAt : ℕ → List LogicalPartition → Type 0
@@ -234,23 +229,23 @@ first_atb X (l ∷ ls) = eqb (at l) X
 
 -- rule S16: EBRs ascend
 abbrev pub Ascend : Contents → Type 0
-Ascend t = Row Before t.logicals none
+Ascend t = Row Before t.logicals None
 
 abbrev pub beforeb : LogicalPartition → Option LogicalPartition → Bool
-beforeb l none = true
-beforeb l (some m) = ltb (at l) (at m)
+beforeb l None = true
+beforeb l (Some m) = ltb (at l) (at m)
 
 unfoldable pub ascendb : Contents → Bool
-ascendb t = rowb beforeb t.logicals none
+ascendb t = rowb beforeb t.logicals None
 
 -- rules S17 to S19: each later link has at least 1 sector, ends by the extended end, covers its partition
-abbrev pub OfLink : (ℕ → Type 0) → Type 0 → MaybeSectors → Type 0
-OfLink P other Absent = other
-OfLink P other (Present n) = P n
+abbrev pub OfLink : (ℕ → Type 0) → Type 0 → Option ℕ → Type 0
+OfLink P other None = other
+OfLink P other (Some n) = P n
 
-abbrev pub of_linkb : (ℕ → Bool) → Bool → MaybeSectors → Bool
-of_linkb p other Absent = other
-of_linkb p other (Present n) = p n
+abbrev pub of_linkb : (ℕ → Bool) → Bool → Option ℕ → Bool
+of_linkb p other None = other
+of_linkb p other (Some n) = p n
 
 abbrev pub LinksSized : Contents → Type 0
 LinksSized t = All (λ l. OfLink (λ n. 1 ≤ n) ⊥ l.ebr_sectors) (later t.logicals)

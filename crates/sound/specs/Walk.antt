@@ -1,6 +1,6 @@
 -- The same rules in the order in which the code goes through a table once: entry by entry, pair by pair, logical partition by logical partition. Assumes nothing.
 use Rattle.std.specs.Prelude.{ℕ, ◌+◌, Bool, true, false, not, ◌&&◌, ◌||◌, List, [], ◌∷◌, ltb, leb, eqb}
-use Rattle.std.proofs.Math.Option.{Option, none, some}
+use Rattle.std.specs.Prelude.{Option, None, Some}
 use Rattle.base.specs.Pick.{pick}
 use Rattle.base.specs.All.{allb}
 use Rattle.record_entry.specs.declared.MBRPartitionEntry.{MBRPartitionEntry}
@@ -56,9 +56,9 @@ rowsb hi first from (l ∷ ls) = standb hi first from l && rowsb hi false (end l
 
 -- no logical partitions without an extended entry
 unfoldable pub chainb : Option MBRPartitionEntry → List LogicalPartition → Bool
-chainb none [] = true
-chainb none (l ∷ ls) = false
-chainb (some e) ls = rowsb (end_of e) true e.starting_lba ls
+chainb None [] = true
+chainb None (l ∷ ls) = false
+chainb (Some e) ls = rowsb (end_of e) true e.starting_lba ls
 
 unfoldable pub walkb : Contents → Bool
 walkb t = signedb t && (allb (primaryb t.size) (primaries_of t) && (pairsb pairb (primaries_of t) && chainb (extended_entry t) t.logicals))

@@ -8,104 +8,76 @@ ghost use Rattle.sound.specs.Is.{pairsb};
 ghost use Rattle.sound.specs.Sound.{contents_of, soundb};
 ghost use Rattle.sound.specs.Walk.{primaryb, pairb, rowsb, chainb};
 
-use record_mbr::{Found, MBRHeader};
+use record_mbr::MBRHeader;
+use sound::by_itself::ends_at;
+use sound::each::{good_pair, good_primary, stands};
+use sound::in_turn::end_of;
 use table::MBR;
 
+#[tactic(auto, using(sound::proofs::Walk::and_true), unfolding(base::specs::All::allb))]
 fn good_primaries(h: MBRHeader, disk: u32) -> bool
     ensures { result ≡ allb (primaryb disk) (primaries h) }
 {
-    let one = h.partition_1;
-    if !sound::each::good_primary(one, disk) {
-        return false;
-    }
-    let two = h.partition_2;
-    if !sound::each::good_primary(two, disk) {
-        return false;
-    }
-    let three = h.partition_3;
-    if !sound::each::good_primary(three, disk) {
-        return false;
-    }
-    let four = h.partition_4;
-    sound::each::good_primary(four, disk)
+    good_primary(h.partition_1, disk)
+        && good_primary(h.partition_2, disk)
+        && good_primary(h.partition_3, disk)
+        && good_primary(h.partition_4, disk)
 }
 
+#[tactic(auto, using(sound::proofs::Walk::and_true), unfolding(base::specs::All::allb, sound::specs::Is::pairsb))]
 fn good_pairs(h: MBRHeader) -> bool
     ensures { result ≡ pairsb pairb (primaries h) }
 {
-    let one = h.partition_1;
-    let two = h.partition_2;
-    let three = h.partition_3;
-    let four = h.partition_4;
-    if !sound::each::good_pair(one, two) {
-        return false;
-    }
-    if !sound::each::good_pair(one, three) {
-        return false;
-    }
-    if !sound::each::good_pair(one, four) {
-        return false;
-    }
-    if !sound::each::good_pair(two, three) {
-        return false;
-    }
-    if !sound::each::good_pair(two, four) {
-        return false;
-    }
-    sound::each::good_pair(three, four)
+    good_pair(h.partition_1, h.partition_2)
+        && good_pair(h.partition_1, h.partition_3)
+        && good_pair(h.partition_1, h.partition_4)
+        && good_pair(h.partition_2, h.partition_3)
+        && good_pair(h.partition_2, h.partition_4)
+        && good_pair(h.partition_3, h.partition_4)
 }
 
 // One logical partition after the other: each ends by the next EBR, so that EBRs ascend, and the last by the extended end.
+#[tactic(auto, using(sound::proofs::Walk::row_again, sound::proofs::Walk::row_stop, sound::proofs::Walk::row_end))]
 fn good_rows(t: MBR, from: u32, hi: u64) -> bool
     requires { t.count ≤ most }
     ensures { result ≡ rowsb hi true from (logicals t) }
 {
-    let n = t.count;
     let mut end = from as u64;
-    for i in 0..n {
-        let l = t.logical_partitions[i];
-        if !sound::each::stands(l, i == 0, end, hi) {
+    for (i, l) in t.logical_partitions[..t.count].iter().enumerate() {
+        if !stands(*l, i == 0, end, hi) {
             return false;
         }
-        end = sound::by_itself::ends_at(l);
+        end = ends_at(*l);
     }
     end <= hi
 }
 
 // No logical partitions without an extended entry.
+#[tactic(auto, using(sound::proofs::Walk::chain_none), unfolding(sound::specs::Walk::chainb))]
 fn good_chain(t: MBR) -> bool
     requires { t.count ≤ most }
     ensures { result ≡ chainb (extended_of (primaries t.header)) (logicals t) }
 {
-    let header = t.header;
-    let found = header.get_extended_partition();
-    match found {
-        Found::Nothing => t.count == 0,
-        Found::Entry(e) => good_rows(t, e.starting_lba, sound::in_turn::end_of(e)),
+    match t.header.get_extended_partition() {
+        None => t.count == 0,
+        Some(e) => good_rows(t, e.starting_lba, end_of(e)),
     }
 }
 
 fn is_signed(h: MBRHeader) -> bool
     ensures { result ≡ stands_at h.boot_signature 0 signature }
 {
-    let sign = h.boot_signature;
-    base::stands_at(&sign, 0, &base::SIGNATURE)
+    h.boot_signature == base::SIGNATURE
 }
 
 // The test on a table whose count is no greater than its capacity: for the crates above.
+#[tactic(auto, using(sound::proofs::Walk::sound_parts))]
 pub fn is_sound(t: MBR) -> bool
     requires { t.count ≤ most }
     ensures { result ≡ soundb (contents_of t) }
 {
-    let header = t.header;
-    if !is_signed(header) {
-        return false;
-    }
-    if !good_primaries(header, t.disk_size) {
-        return false;
-    }
-    if !good_pairs(header) {
-        return false;
-    }
-    good_chain(t)
+    is_signed(t.header)
+        && good_primaries(t.header, t.disk_size)
+        && good_pairs(t.header)
+        && good_chain(t)
 }

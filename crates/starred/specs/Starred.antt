@@ -5,7 +5,7 @@ use Rattle.read_align.specs.Align.{alignment}
 use Rattle.base.specs.Said.{Said, gives, refuses}
 use Rattle.record_chs.specs.declared.CHS.{CHS}
 use Rattle.record_chs.specs.Chs.{chs, chs_bytes, exact, aligned, is_valid}
-use Rattle.std.proofs.Math.Option.{Option, none, some}
+use Rattle.std.specs.Prelude.{Option, None, Some}
 use Rattle.table_free.specs.declared.Run.{Run}
 use Rattle.table_free.specs.Free.{free}
 use Rattle.table_place.specs.Place.{first_place, last_place}
@@ -43,8 +43,8 @@ runs (refuses k) ns = false
 
 -- the place is given, or none is
 abbrev pub place_is : Said (Option ℕ) → List ℕ → Bool
-place_is (gives none) ns = same [] ns
-place_is (gives (some p)) ns = same (p ∷ []) ns
+place_is (gives None) ns = same [] ns
+place_is (gives (Some p)) ns = same (p ∷ []) ns
 place_is (refuses k) ns = false
 
 -- the number is given

@@ -5,128 +5,92 @@
 mod change;
 mod wishes;
 
-use base::Answer;
+use change::NotDone;
+use station_disk::first_sector::FirstSector;
 use station_disk::{first_sector, gather, open, other_size};
 use station_stores::output;
-use station_words::{args, errors, help, options, size, slices, wrong};
-use std::fs::File;
+use station_words::args::Command;
+use station_words::errors::Told;
+use station_words::{args, errors, help, options, size, wrong};
 
 // What the listing does not say.
 fn warn(rt: &HostRuntime, x: &[u8]) {
     first_sector::show_guid(rt, x);
-    if first_sector::state(x) == first_sector::OTHER {
+    if first_sector::state(x) == FirstSector::Other {
         first_sector::show_other(rt, x);
     }
 }
 
-// The listing, or the refusal on standard error.
-fn list(rt: &HostRuntime, x: &[u8]) {
-    let r = read_table::read_from(x);
-    let answer = r.answer;
-    match answer {
-        Answer::Done => {
-            warn(rt, x);
-            let _ = output::show_listing(rt, x);
-        }
-        Answer::Refused(r) => errors::refused(rt, r.number),
-    }
-}
-
-// Collects the extract of an open disk and, if no other sector size speaks against it, lists it or writes it out.
-fn on_open(rt: &HostRuntime, disk: &File, sector: u32, whole: bool) {
+// list and extract: the listing of the disk, or its extract, if no other sector size speaks against it.
+fn look(rt: &HostRuntime, command: Command) -> Result<(), Told> {
+    options::are_known(rt, command, 3)?;
+    args::is_single(rt, 3, "--sector")?;
+    let sector = size::wanted(rt, 3)?;
+    let disk = open::to_read(rt)?;
     let mut space = [0u8; extract::LARGEST];
-    let n = gather::gather(disk, sector, &mut space);
-    if !gather::is_whole(n) {
-        return gather::tell(rt, n);
+    let x = gather::gather(&disk, sector, &mut space).map_err(|why| {
+        errors::line(rt, why);
+        Told
+    })?;
+    other_size::holds(rt, &disk, sector, size::is_named(rt, 3), x)?;
+    if command == Command::Extract {
+        return output::show(rt, x);
     }
-    let x = slices::part(&space, n);
-    if !other_size::holds(rt, disk, sector, size::is_named(rt, 3), x) {
-        return;
+    if let Err(r) = read_table::read_from(x) {
+        errors::refused(rt, r);
+        return Err(Told);
     }
-    if whole {
-        let _ = output::show(rt, x);
-        return;
-    }
-    list(rt, x);
+    warn(rt, x);
+    output::show_listing(rt, x)
 }
 
-fn on_disk(rt: &HostRuntime, sector: u32, whole: bool) {
-    if let Some(disk) = open::to_read(rt) {
-        on_open(rt, &disk, sector, whole);
-    }
-}
-
-// list and extract
-fn looks(rt: &HostRuntime, command: u8, whole: bool) {
-    if !options::are_known(rt, command, 3) {
-        return;
-    }
-    if !args::is_single(rt, 3, b"--sector") {
-        return;
-    }
-    let s = size::wanted(rt, 3);
-    if s == 0 {
-        return;
-    }
-    on_disk(rt, s, whole);
-}
-
-fn no_command(rt: &HostRuntime) {
-    wrong::argument(
-        rt,
-        1,
-        b"the command",
-        b"list, extract, push or remove; station --help says more",
-    );
-}
-
-// What a command asks for.
-fn carry_out(rt: &HostRuntime, command: u8) {
+fn explain(rt: &HostRuntime, command: Option<Command>) {
     match command {
-        1 => looks(rt, 1, false),
-        2 => looks(rt, 2, true),
-        3 => wishes::add(rt),
-        4 => wishes::remove(rt),
-        _ => no_command(rt),
+        Some(Command::List) => help::list(rt),
+        Some(Command::Extract) => help::extract(rt),
+        Some(Command::Push) => help::push(rt),
+        Some(Command::Remove) => help::remove(rt),
+        None => help::all(rt),
     }
 }
 
-fn explain(rt: &HostRuntime, command: u8) {
+// What a command asks for. A change ends with its last words on standard output.
+fn carry_out(rt: &HostRuntime, command: Command) {
     match command {
-        1 => help::list(rt),
-        2 => help::extract(rt),
-        3 => help::push(rt),
-        4 => help::remove(rt),
-        _ => help::all(rt),
+        Command::List | Command::Extract => {
+            let _ = look(rt, command);
+        }
+        Command::Push => change::end(rt, wishes::push(rt)),
+        Command::Remove => change::end(rt, wishes::remove(rt)),
     }
 }
 
-// A command without a disk to work on.
-fn no_disk(rt: &HostRuntime, command: u8) {
-    wrong::argument(rt, 2, b"DISK", b"a disk or an image");
-    if 2 < command {
-        change::end(rt, false);
+// Says that a command has no disk to work on.
+fn no_disk(rt: &HostRuntime, command: Command) {
+    let _ = wrong::argument(rt, 2, "DISK", "a disk or an image");
+    if command.changes() {
+        change::end(rt, Err(NotDone::Failed));
     }
-}
-
-// Is a command there, and no disk?
-fn lacks_disk(rt: &HostRuntime, command: u8) -> bool {
-    if command == 0 {
-        return false;
-    }
-    !args::is_there(rt, 2)
 }
 
 fn main(rt: HostRuntime) {
-    let command = args::command(&rt);
+    let asked = args::asked_command(&rt);
     if args::asks_help(&rt) {
-        return explain(&rt, command);
+        return explain(&rt, asked);
     }
-    if args::is(&rt, 1, b"--version") {
+    if args::is(&rt, 1, "--version") {
         return help::version(&rt);
     }
-    if lacks_disk(&rt, command) {
-        return no_disk(&rt, command);
+    match asked {
+        Some(command) if args::is_there(&rt, 2) => carry_out(&rt, command),
+        Some(command) => no_disk(&rt, command),
+        None => {
+            let _ = wrong::argument(
+                &rt,
+                1,
+                "the command",
+                "list, extract, push or remove; station --help says more",
+            );
+        }
     }
-    carry_out(&rt, command);
 }

@@ -1,55 +1,54 @@
 // The size of an open disk or image, and its sectors.
-use extract::BytePlace;
+use base::Refusal;
 use std::fs::File;
 use std::io;
 use std::io::{ErrorKind, Seek, SeekFrom};
 use std::os::unix::fs::FileExt;
+use thiserror::Error;
 
-// The number of sectors, or why there is none, by one of the numbers below.
-#[derive(Clone, Copy)]
-pub enum Sectors {
-    Are(u32),
-    Unknown(usize),
+// Why there is no extract of a disk.
+#[derive(Clone, Copy, PartialEq, Eq, Debug, Error)]
+pub enum NoExtract {
+    #[error("refused 1: the size is no whole number of sectors of this sector size")]
+    Odd,
+    #[error("refused 1: more than 4294967295 sectors, and the table has no room for that")]
+    Many,
+    #[error("failed: the disk's size cannot be told")]
+    NoSize,
+    #[error("failed: this is a directory, no disk and no image")]
+    Directory,
+    #[error("failed: this is a pipe or a terminal, no disk and no image")]
+    Pipe,
+    #[error("failed: this is a device without an end, no disk")]
+    Endless,
+    #[error("failed: a sector of the disk cannot be read")]
+    Unread,
+    #[error("failed: the records of the disk cannot be collected")]
+    NoEnd,
 }
 
-// Why there is no extract of a disk: the size is no whole number of sectors, or of too many, or cannot be told; a directory; a pipe or
-// a terminal; a device without an end; a sector that cannot be read; records that do not end. An extract is longer than each of them.
-pub const ODD: usize = 1;
-
-pub const MANY: usize = 2;
-
-pub const NO_SIZE: usize = 3;
-
-pub const DIRECTORY: usize = 4;
-
-pub const PIPE: usize = 5;
-
-pub const ENDLESS: usize = 6;
-
-pub const UNREAD: usize = 7;
-
-pub const NO_END: usize = 8;
+impl NoExtract {
+    // The refusal that it is, if it is one and no failure.
+    pub fn refusal(self) -> Option<Refusal> {
+        match self {
+            NoExtract::Odd | NoExtract::Many => Some(Refusal::BadExtract),
+            _ => None,
+        }
+    }
+}
 
 // The number of sectors of a size in bytes.
-fn counted(n: u64, sector: u32) -> Sectors {
-    if sector == 0 {
-        return Sectors::Unknown(ODD);
+fn counted(n: u64, sector: u32) -> Result<u32, NoExtract> {
+    let size = u64::from(sector);
+    if size == 0 || n % size != 0 {
+        return Err(NoExtract::Odd);
     }
-    let size = sector as u64;
-    if n % size != 0 {
-        return Sectors::Unknown(ODD);
-    }
-    let d = n / size;
-    if 4294967295 < d {
-        return Sectors::Unknown(MANY);
-    }
-    Sectors::Are(d as u32)
+    u32::try_from(n / size).map_err(|_| NoExtract::Many)
 }
 
 // How many bytes the start of a disk gives, or why it gives none.
 fn first_byte(disk: &File) -> io::Result<usize> {
-    let mut one = [0u8; 1];
-    disk.read_at(&mut one, 0)
+    disk.read_at(&mut [0u8; 1], 0)
 }
 
 // The place of the disk's end, in bytes.
@@ -58,54 +57,32 @@ fn end(mut disk: &File) -> io::Result<u64> {
 }
 
 // The size of what can be read from its start on, or cannot.
-fn measured(disk: &File, sector: u32, got: usize) -> Sectors {
+fn measured(disk: &File, sector: u32, got: usize) -> Result<u32, NoExtract> {
     match end(disk) {
-        Err(_) => Sectors::Unknown(NO_SIZE),
-        Ok(n) => {
-            if n == 0 {
-                if 0 < got {
-                    return Sectors::Unknown(ENDLESS);
-                }
-            }
-            counted(n, sector)
-        }
+        Ok(0) if 0 < got => Err(NoExtract::Endless),
+        Ok(n) => counted(n, sector),
+        Err(_) => Err(NoExtract::NoSize),
     }
 }
 
 // The size of the disk in sectors.
-pub fn size_of(disk: &File, sector: u32) -> Sectors {
+pub fn size_of(disk: &File, sector: u32) -> Result<u32, NoExtract> {
     match first_byte(disk) {
         Ok(got) => measured(disk, sector, got),
         Err(why) => match why.kind() {
-            ErrorKind::IsADirectory => Sectors::Unknown(DIRECTORY),
-            ErrorKind::NotSeekable => Sectors::Unknown(PIPE),
+            ErrorKind::IsADirectory => Err(NoExtract::Directory),
+            ErrorKind::NotSeekable => Err(NoExtract::Pipe),
             _ => measured(disk, sector, 0),
         },
     }
 }
 
-// Where a sector starts, in bytes; nothing if it has no place.
-pub fn offset(sector: u32, lba: u32) -> Option<u64> {
-    match extract::byte_place(sector, lba) {
-        BytePlace::At(p) => {
-            if p < 9223372036854775808 {
-                return Some(p);
-            }
-            None
-        }
-        BytePlace::Refused(_) => None,
-    }
+// Where a sector starts, in bytes.
+pub fn offset(sector: u32, lba: u32) -> io::Result<u64> {
+    extract::byte_place(sector, lba).map_err(|_| io::Error::from(ErrorKind::InvalidInput))
 }
 
-// How many bytes were moved; 0 if none could be.
-pub fn count(got: io::Result<usize>) -> usize {
-    got.unwrap_or(0)
-}
-
-// Reads so many bytes from the sector's start on.
-pub fn read_at(disk: &File, sector: u32, lba: u32, d: &mut [u8]) -> bool {
-    match offset(sector, lba) {
-        None => false,
-        Some(at) => count(disk.read_at(d, at)) == d.len(),
-    }
+// Reads the sector from its start on, as many bytes as `d` has.
+pub fn read_at(disk: &File, sector: u32, lba: u32, d: &mut [u8]) -> io::Result<()> {
+    disk.read_exact_at(d, offset(sector, lba)?)
 }

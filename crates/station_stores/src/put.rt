@@ -1,111 +1,99 @@
 // Stores put on an open disk, each flushed to the medium before the next one, and read back.
-use crate::store;
+use crate::store::Store;
+use careful_stores::STORE;
 use station_disk::sectors;
-use station_words::{errors, slices};
+use station_words::errors;
+use station_words::errors::Told;
 use std::fs::File;
+use std::io;
 use std::os::unix::fs::FileExt;
 
 // The bytes of the largest sector.
 const LARGEST: usize = 4096;
 
-// Puts the sector's old bytes back after a write that was cut short.
-fn undo(rt: &HostRuntime, disk: &File, at: u64, old: &[u8]) {
-    if sectors::count(disk.write_at(old, at)) != old.len() {
+// What is said of a write that wrote nothing.
+const NOT_WRITTEN: &str = "a sector of the disk cannot be written";
+
+// Puts the sector's old bytes back after a write that was cut short, and says what became of it.
+fn undo(rt: &HostRuntime, disk: &File, at: u64, old: &[u8]) -> Told {
+    if disk.write_at(old, at).unwrap_or(0) != old.len() {
         return errors::failed(
             rt,
-            b"a write was cut short, and its sector cannot be put back: list the disk before anything else",
+            "a write was cut short, and its sector cannot be put back: list the disk before anything else",
         );
     }
     if disk.sync_all().is_err() {
         return errors::failed(
             rt,
-            b"a write was cut short; its sector was put back, but not flushed",
+            "a write was cut short; its sector was put back, but not flushed",
         );
     }
-    errors::failed(rt, b"a write was cut short; its sector was put back");
-}
-
-// Says that nothing was written, and is false.
-fn is_not_written(rt: &HostRuntime) -> bool {
-    errors::failed(rt, b"a sector of the disk cannot be written");
-    false
+    errors::failed(rt, "a write was cut short; its sector was put back")
 }
 
 // Writes the sector in one call, at its place.
-fn write_whole(rt: &HostRuntime, disk: &File, place: Option<u64>, old: &[u8], new: &[u8]) -> bool {
-    let Some(at) = place else {
-        return is_not_written(rt);
+fn write_whole(
+    rt: &HostRuntime,
+    disk: &File,
+    place: io::Result<u64>,
+    old: &[u8],
+    new: &[u8],
+) -> Result<(), Told> {
+    let Ok(at) = place else {
+        return Err(errors::failed(rt, NOT_WRITTEN));
     };
-    let n = sectors::count(disk.write_at(new, at));
-    if n == new.len() {
-        return true;
+    match disk.write_at(new, at).unwrap_or(0) {
+        n if n == new.len() => Ok(()),
+        0 => Err(errors::failed(rt, NOT_WRITTEN)),
+        _ => Err(undo(rt, disk, at, old)),
     }
-    if n == 0 {
-        return is_not_written(rt);
-    }
-    undo(rt, disk, at, old);
-    false
-}
-
-// Waits until what was written is on the medium.
-fn flush(rt: &HostRuntime, disk: &File) -> bool {
-    if disk.sync_all().is_ok() {
-        return true;
-    }
-    errors::failed(rt, b"the disk cannot be flushed");
-    false
 }
 
 // Is what was written there?
-fn is_there(rt: &HostRuntime, disk: &File, sector: u32, lba: u32, new: &[u8]) -> bool {
+fn is_there(disk: &File, sector: u32, lba: u32, new: &[u8]) -> bool {
     let mut space = [0u8; LARGEST];
-    let back = slices::part_mut(&mut space, sector as usize);
-    if sectors::read_at(disk, sector, lba, back) {
-        if slices::same(back, new) {
-            return true;
-        }
-    }
-    errors::failed(rt, b"a sector does not read back as it was written");
-    false
+    let Some(back) = space.get_mut(..new.len()) else {
+        return false;
+    };
+    sectors::read_at(disk, sector, lba, back).is_ok() && *back == *new
 }
 
-// One record over the first bytes of its sector; the rest of the sector stays.
-fn put(rt: &HostRuntime, disk: &File, sector: u32, lba: u32, record: &[u8]) -> bool {
-    let mut old_space = [0u8; LARGEST];
-    let mut new_space = [0u8; LARGEST];
-    let size = sector as usize;
-    if !sectors::read_at(disk, sector, lba, slices::part_mut(&mut old_space, size)) {
-        errors::failed(rt, b"a sector of the disk cannot be read");
-        return false;
+// One store: its record over the first bytes of its sector; the rest of the sector stays.
+fn put(rt: &HostRuntime, disk: &File, sector: u32, s: Store<'_>) -> Result<(), Told> {
+    let size = LARGEST.min(sector as usize);
+    let mut old = [0u8; LARGEST];
+    if sectors::read_at(disk, sector, s.lba, &mut old[..size]).is_err() {
+        return Err(errors::failed(rt, "a sector of the disk cannot be read"));
     }
-    slices::over(&mut new_space, &old_space);
-    slices::over(&mut new_space, record);
-    let old = slices::part(&old_space, size);
-    let new = slices::part(&new_space, size);
-    if !write_whole(rt, disk, sectors::offset(sector, lba), old, new) {
-        return false;
+    let mut new = old;
+    for (to, from) in new.iter_mut().zip(s.record) {
+        *to = *from;
     }
-    if !flush(rt, disk) {
-        return false;
+    write_whole(
+        rt,
+        disk,
+        sectors::offset(sector, s.lba),
+        &old[..size],
+        &new[..size],
+    )?;
+    if disk.sync_all().is_err() {
+        return Err(errors::failed(rt, "the disk cannot be flushed"));
     }
-    is_there(rt, disk, sector, lba, new)
+    if !is_there(disk, sector, s.lba, &new[..size]) {
+        return Err(errors::failed(rt, "a sector does not read back as it was written"));
+    }
+    Ok(())
 }
 
-// One store: its LBA and its record.
-fn put_store(rt: &HostRuntime, disk: &File, sector: u32, s: &[u8]) -> bool {
-    if s.len() != careful_stores::STORE {
-        return false;
+// The stores, in their order.
+pub fn put_all(
+    rt: &HostRuntime,
+    disk: &File,
+    sector: u32,
+    stores: &[[u8; STORE]],
+) -> Result<(), Told> {
+    for bytes in stores {
+        put(rt, disk, sector, Store::of(bytes))?;
     }
-    put(rt, disk, sector, store::lba_of(s), store::record_of(s))
-}
-
-// One or two stores, in their order.
-pub fn put_all(rt: &HostRuntime, disk: &File, sector: u32, out: &[u8], n: usize) -> bool {
-    if !put_store(rt, disk, sector, store::first(out)) {
-        return false;
-    }
-    if n < 2 {
-        return true;
-    }
-    put_store(rt, disk, sector, store::second(out))
+    Ok(())
 }

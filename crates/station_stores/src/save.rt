@@ -1,70 +1,41 @@
 // The extract kept in a new file before a change.
-use station_words::{args, errors, paths, slices};
+use station_words::errors::Told;
+use station_words::{args, errors, paths};
 use std::fs::{File, OpenOptions};
 use std::io;
 use std::io::Write;
 
-// The length of the path of the folder that a path's file stands in, with its slash.
-fn folder_length(path: &[u8]) -> usize {
-    let mut n = 0;
-    for i in 0..path.len() {
-        if path[i] == b'/' {
-            n = i + 1;
-        }
-    }
-    n
-}
-
+// Opens the folder that a path's file stands in.
 fn open_folder(rt: &HostRuntime, path: &[u8]) -> io::Result<File> {
-    let n = folder_length(path);
-    if n == 0 {
-        return File::open(rt, ".");
+    match path.iter().rposition(|b| *b == b'/') {
+        Some(slash) => paths::open(rt, &path[..=slash]),
+        None => File::open(rt, "."),
     }
-    paths::open(rt, slices::part(path, n))
 }
 
-// Flushes the folder, so that it keeps the new name.
-fn flush_folder(rt: &HostRuntime, path: &[u8]) -> io::Result<()> {
-    let folder = open_folder(rt, path)?;
-    folder.sync_all()
-}
-
-// The bytes into the file, flushed; then it is closed.
-fn fill(mut file: File, x: &[u8]) -> io::Result<()> {
-    file.write_all(x)?;
-    file.sync_all()
-}
-
-fn create(rt: &HostRuntime, path: &[u8]) -> io::Result<File> {
-    OpenOptions::new()
+// The bytes into a new file, flushed; then the folder is flushed, so that it keeps the new name.
+fn keep(rt: &HostRuntime, path: &[u8], x: &[u8]) -> io::Result<()> {
+    let mut file = OpenOptions::new()
         .write(true)
         .create_new(true)
-        .open(rt, paths::name(path)?)
-}
-
-fn keep(rt: &HostRuntime, path: &[u8], x: &[u8]) -> io::Result<()> {
-    let file = create(rt, path)?;
-    fill(file, x)?;
-    flush_folder(rt, path)
+        .open(rt, paths::name(path)?)?;
+    file.write_all(x)?;
+    file.sync_all()?;
+    open_folder(rt, path)?.sync_all()
 }
 
 // Writes the extract to the new file that --save names, and flushes it. Where the option is not there, nothing is to be done.
-pub fn save(rt: &HostRuntime, x: &[u8]) -> bool {
-    let i = args::find(rt, 4, b"--save");
-    if i == 0 {
-        return true;
-    }
+pub fn save(rt: &HostRuntime, x: &[u8]) -> Result<(), Told> {
+    let Some(i) = args::find(rt, 4, "--save") else {
+        return Ok(());
+    };
     let mut space = [0u8; args::LONGEST];
-    let path = args::bytes(rt, args::behind(i), &mut space);
-    match keep(rt, path, x) {
-        Ok(()) => true,
-        Err(why) => {
-            errors::system(rt, path, &why);
-            errors::failed(
-                rt,
-                b"the extract cannot be kept in a new file; nothing was stored on the disk",
-            );
-            false
-        }
-    }
+    let path = args::bytes(rt, i + 1, &mut space);
+    keep(rt, path, x).map_err(|why| {
+        errors::system(rt, path, &why);
+        errors::failed(
+            rt,
+            "the extract cannot be kept in a new file; nothing was stored on the disk",
+        )
+    })
 }

@@ -1,28 +1,17 @@
 // The stores of a change in the bytes that it answers with: each has an LBA and a record.
-use station_words::slices;
+use careful_stores::STORE;
 
-// The first store of a change.
-pub fn first(out: &[u8]) -> &[u8] {
-    slices::part(out, careful_stores::STORE)
+#[derive(Clone, Copy)]
+pub struct Store<'a> {
+    pub lba: u32,
+    pub record: &'a [u8],
 }
 
-// The second one.
-pub fn second(out: &[u8]) -> &[u8] {
-    slices::part(
-        slices::behind(out, careful_stores::STORE),
-        careful_stores::STORE,
-    )
-}
-
-// The record of a store.
-pub fn record_of(s: &[u8]) -> &[u8] {
-    slices::behind(s, 4)
-}
-
-// The LBA of a store.
-pub fn lba_of(s: &[u8]) -> u32 {
-    if s.len() < 4 {
-        return 0;
+impl<'a> Store<'a> {
+    pub fn of(bytes: &'a [u8; STORE]) -> Store<'a> {
+        Store {
+            lba: u32::from_le_bytes([bytes[0], bytes[1], bytes[2], bytes[3]]),
+            record: &bytes[4..],
+        }
     }
-    base::get32(s, 0)
 }

@@ -1,20 +1,20 @@
 // What --help and --version print.
 
-fn lines(rt: &HostRuntime, s: &[u8]) {
-    let _ = rt.write_all(s);
+fn lines(rt: &HostRuntime, s: &str) {
+    let _ = rt.print(s);
 }
 
 fn sector(rt: &HostRuntime) {
     lines(
         rt,
-        b"  --sector N: the sector size, 512, 1024, 2048 or 4096; not given, a device's own, and 512 for an image\n",
+        "  --sector N: the sector size, 512, 1024, 2048 or 4096; not given, a device's own, and 512 for an image\n",
     );
 }
 
 fn changes(rt: &HostRuntime) {
     lines(
         rt,
-        b"  --dry-run: prints the table before and after and the stores, and changes nothing
+        "  --dry-run: prints the table before and after and the stores, and changes nothing
   --save FILE: first writes the extract of the disk to a new file
   --in-use: goes on though a partition of the disk is mounted, is swap or is held\n",
     );
@@ -24,7 +24,7 @@ fn changes(rt: &HostRuntime) {
 pub fn list(rt: &HostRuntime) {
     lines(
         rt,
-        b"station list DISK [--sector N]
+        "station list DISK [--sector N]
   prints the partition table of a disk or an image\n",
     );
     sector(rt);
@@ -33,7 +33,7 @@ pub fn list(rt: &HostRuntime) {
 pub fn extract(rt: &HostRuntime) {
     lines(
         rt,
-        b"station extract DISK [--sector N]
+        "station extract DISK [--sector N]
   writes the records that reading looks at to standard output, as an extract\n",
     );
     sector(rt);
@@ -42,7 +42,7 @@ pub fn extract(rt: &HostRuntime) {
 pub fn push(rt: &HostRuntime) {
     lines(
         rt,
-        b"station push DISK TYPE START SECTORS [--align N] [--geometry C/H/S] [--overwrite-first]
+        "station push DISK TYPE START SECTORS [--align N] [--geometry C/H/S] [--overwrite-first]
     [--dry-run] [--save FILE] [--in-use] [--sector N]
   adds a logical partition behind the others or in a gap between two, and prints its number; TYPE is two hex digits
   START is its boot record's place and SECTORS counts from there; both are rounded up
@@ -56,7 +56,7 @@ pub fn push(rt: &HostRuntime) {
 pub fn remove(rt: &HostRuntime) {
     lines(
         rt,
-        b"station remove DISK NUMBER [--dry-run] [--save FILE] [--in-use] [--sector N]
+        "station remove DISK NUMBER [--dry-run] [--save FILE] [--in-use] [--sector N]
   removes the logical partition of that number, from 5 on\n",
     );
     changes(rt);
@@ -69,10 +69,10 @@ pub fn all(rt: &HostRuntime) {
     remove(rt);
     lines(
         rt,
-        b"station COMMAND --help prints the part of one command, station --version the version.\n",
+        "station COMMAND --help prints the part of one command, station --version the version.\n",
     );
 }
 
 pub fn version(rt: &HostRuntime) {
-    lines(rt, b"station 0.1.0 (Crumbvessel)\n");
+    lines(rt, "station 0.1.0 (Crumbvessel)\n");
 }

@@ -11,5 +11,4 @@ pub mod hex;
 pub mod options;
 pub mod paths;
 pub mod size;
-pub mod slices;
 pub mod wrong;

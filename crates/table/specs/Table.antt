@@ -1,6 +1,6 @@
 -- The table: header, logical partitions, and what no disk holds. Assumes nothing.
-use Rattle.std.specs.Prelude.{ℕ, ◌+◌, ◌-◌, ◌*◌, ◌/◌, List, [], ◌++◌, map, leb, length, take, replicate}
-use Rattle.std.proofs.Math.Option.{Option}
+use Rattle.std.specs.Prelude.{ℕ, ◌+◌, ◌-◌, ◌*◌, ◌/◌, List, [], ◌++◌, map, leb, length, take, replicate, None}
+use Rattle.std.specs.Prelude.{Option}
 use Rattle.base.specs.Checks.{Check, ◌!◌}
 use Rattle.record_chs.specs.Chs.{no_chs}
 use Rattle.record_entry.specs.declared.MBRPartitionEntry.{MBRPartitionEntry}
@@ -8,8 +8,6 @@ use Rattle.record_entry.specs.Entry.{no_entry}
 use Rattle.record_ebr.specs.declared.Kept.{Kept}
 use Rattle.record_ebr.specs.Ebr.{no_kept}
 use Rattle.record_mbr.specs.Mbr.{primaries, extended_of}
-use Rattle.table.specs.declared.MaybeSectors.TheVariants.{Absent}
-use Rattle.table.specs.declared.MaybeChs.TheVariants.{Absent as NoChs}
 use Rattle.table.specs.declared.LogicalPartition.{LogicalPartition}
 use Rattle.table.specs.declared.MBR.{MBR}
 
@@ -43,9 +41,9 @@ empty_but k =
     record {
       partition = no_entry;
       absolute_ebr_lba = record { 0 = 0 };
-      ebr_sectors = Absent;
+      ebr_sectors = None;
       ebr_first_chs = no_chs;
-      ebr_last_chs = NoChs;
+      ebr_last_chs = None;
       kept = k;
     }
 

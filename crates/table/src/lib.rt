@@ -22,27 +22,13 @@ pub struct LinkLba(pub u32);
 #[derive(Clone, Copy)]
 pub struct DiskLba(pub u32);
 
-// A number of sectors, or none.
-#[derive(Clone, Copy)]
-pub enum MaybeSectors {
-    Absent,
-    Present(u32),
-}
-
-// A CHS address, or none.
-#[derive(Clone, Copy)]
-pub enum MaybeChs {
-    Absent,
-    Present(CHS),
-}
-
 #[derive(Clone, Copy)]
 pub struct LogicalPartition {
     pub partition: MBRPartitionEntry,
     pub absolute_ebr_lba: DiskLba,
-    pub ebr_sectors: MaybeSectors,
+    pub ebr_sectors: Option<u32>,
     pub ebr_first_chs: CHS,
-    pub ebr_last_chs: MaybeChs,
+    pub ebr_last_chs: Option<CHS>,
     pub kept: Kept,
 }
 
@@ -50,6 +36,7 @@ pub struct LogicalPartition {
 pub struct MBR {
     pub sector_size: u32,
     pub header: MBRHeader,
+    // A count beside an array, and no vector: the table has a fixed size and is copied whole, as its block in C is.
     pub logical_partitions: [LogicalPartition; LOGICALS],
     pub count: usize,
     pub align: u32,
@@ -70,9 +57,9 @@ impl LogicalPartition {
         LogicalPartition {
             partition: none,
             absolute_ebr_lba: DiskLba(0),
-            ebr_sectors: MaybeSectors::Absent,
+            ebr_sectors: None,
             ebr_first_chs: first,
-            ebr_last_chs: MaybeChs::Absent,
+            ebr_last_chs: None,
             kept: kept,
         }
     }

@@ -1,7 +1,7 @@
 -- Steps of update_chs. Assumes nothing.
 use mathlib.Core.Path.{◌≡◌, refl, ap, sym, ◌∙◌}
 use mathlib.Core.Bool.{Bool, true, false}
-use mathlib.Core.Option.{some}
+use Rattle.std.specs.Prelude.{Some, Option}
 use mathlib.Core.List.{List, [], ◌∷◌}
 use Prim.Native.Nat.{ℕ, ◌+◌, ◌-◌}
 use native.Mathlib.Omega.{arith}
@@ -13,7 +13,6 @@ use Rattle.base.specs.Said.{Said, gives, refuses, and_then, failure, value_or}
 use Rattle.base.specs.Checks.{Check, checked, answer, first-fail}
 use Rattle.record_chs.specs.declared.CHS.{CHS}
 use Rattle.record_chs.specs.Chs.{exact}
-use Rattle.table.specs.declared.MaybeChs.{MaybeChs}
 use Rattle.table.specs.declared.LogicalPartition.{LogicalPartition}
 use Rattle.table_address.specs.declared.Geometry.{Geometry}
 use Rattle.table_address.specs.Address.{address_checks, last_checks, link_checks, address_in, link_address, addressed, update_checks, update_chs, with_addresses}
@@ -50,10 +49,10 @@ module _ (g : Geometry) (l : LogicalPartition) where
   abbrev link : Said CHS
   link = exact place g.cylinders g.heads g.sectors
 
-  abbrev end : Said MaybeChs
+  abbrev end : Said (Option CHS)
   end = answer (link_checks g place l.ebr_sectors) (link_address g place l.ebr_sectors)
 
-  abbrev with : CHS → CHS → CHS → MaybeChs → LogicalPartition
+  abbrev with : CHS → CHS → CHS → Option CHS → LogicalPartition
   with = with_addresses l
 
   pub update-settled : update_chs g l ≡ four_addresses l first last link end
@@ -88,7 +87,7 @@ update-failure g l = failed (update_checks g l) (addressed g l)
     failed [] a = refl
     failed (c ∷ cs) a = go c.holds (failed cs a)
       where
-        go : (b : Bool) → failure (answer cs a) ≡ first-fail cs → failure (pick b (answer cs a) (refuses c.number)) ≡ pick b (first-fail cs) (some c.number)
+        go : (b : Bool) → failure (answer cs a) ≡ first-fail cs → failure (pick b (answer cs a) (refuses c.number)) ≡ pick b (first-fail cs) (Some c.number)
         go true ih = ih
         go false ih = refl
 

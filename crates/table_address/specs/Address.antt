@@ -1,14 +1,10 @@
 -- The four addresses of a logical partition: update_chs, and when a push computes them. Assumes nothing.
-use Rattle.std.specs.Prelude.{ℕ, ◌+◌, ◌-◌, ◌^◌, List, [], ◌∷◌, ◌++◌, Bool, ◌&&◌, ltb, leb}
+use Rattle.std.specs.Prelude.{ℕ, ◌+◌, ◌-◌, ◌^◌, List, [], ◌∷◌, ◌++◌, Bool, ◌&&◌, ltb, leb, Option, Some, None}
 use Rattle.base.specs.Pick.{pick}
 use Rattle.base.specs.Said.{Said}
 use Rattle.base.specs.Checks.{Check, ◌!◌, answer}
 use Rattle.record_chs.specs.declared.CHS.{CHS}
 use Rattle.record_chs.specs.Chs.{address_of, exact_checks}
-use Rattle.table.specs.declared.MaybeSectors.{MaybeSectors}
-use Rattle.table.specs.declared.MaybeSectors.TheVariants.{Absent, Present}
-use Rattle.table.specs.declared.MaybeChs.{MaybeChs}
-use Rattle.table.specs.declared.MaybeChs.TheVariants.{Absent as NoChs, Present as SomeChs}
 use Rattle.table.specs.declared.LogicalPartition.{LogicalPartition}
 use Rattle.table_address.specs.declared.Geometry.{Geometry}
 
@@ -33,9 +29,9 @@ abbrev pub last_checks : Geometry → ℕ → ℕ → List Check
 last_checks g a n = (7 ! fits (a + n)) ∷ (7 ! ltb 0 (a + n)) ∷ address_checks g (a + n - 1)
 
 -- those of a link's last sector, if there is a link
-abbrev pub link_checks : Geometry → ℕ → MaybeSectors → List Check
-link_checks g a Absent = []
-link_checks g a (Present n) = last_checks g a n
+abbrev pub link_checks : Geometry → ℕ → Option ℕ → List Check
+link_checks g a None = []
+link_checks g a (Some n) = last_checks g a n
 
 -- rule U9: the partition's first and last sector, the EBR, the link's last sector
 unfoldable pub update_checks : Geometry → LogicalPartition → List Check
@@ -46,12 +42,12 @@ update_checks g l =
     ++ link_checks g l.absolute_ebr_lba.0 l.ebr_sectors
 
 -- rule U1
-abbrev pub link_address : Geometry → ℕ → MaybeSectors → MaybeChs
-link_address g a Absent = NoChs
-link_address g a (Present n) = SomeChs (address_in g (a + n - 1))
+abbrev pub link_address : Geometry → ℕ → Option ℕ → Option CHS
+link_address g a None = None
+link_address g a (Some n) = Some (address_in g (a + n - 1))
 
 -- the partition with other addresses
-abbrev pub with_addresses : LogicalPartition → CHS → CHS → CHS → MaybeChs → LogicalPartition
+abbrev pub with_addresses : LogicalPartition → CHS → CHS → CHS → Option CHS → LogicalPartition
 with_addresses l a b c d =
     record {
       partition =

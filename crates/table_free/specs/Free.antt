@@ -1,9 +1,11 @@
 -- Free runs, as the crate finds them: positions, sorted, taken in pairs. Assumes nothing.
 -- But for 6, which is tested first, every refusal is a 7; so it does not matter which step out of range the crate meets first, only that it meets one.
-use Rattle.std.specs.Prelude.{ℕ, ◌+◌, ◌-◌, ◌*◌, ◌^◌, ◌<◌, List, [], ◌∷◌, ◌++◌, map, Bool, true, ◌&&◌, ◌≡◌, ltb, leb, length, take, replicate}
-use Rattle.std.proofs.Math.Option.{Option, none, some}
+use Rattle.std.specs.Prelude.{Err}
+use Rattle.base.specs.declared.Refusal.{Refusal}
+use Rattle.std.specs.Prelude.{ℕ, IfOk, ◌+◌, ◌-◌, ◌*◌, ◌^◌, ◌<◌, List, [], ◌∷◌, ◌++◌, map, Bool, true, ◌&&◌, ◌≡◌, ltb, leb, length, take, replicate, Result, Ok}
+use Rattle.std.specs.Prelude.{Option, None, Some}
 use Rattle.base.specs.Pick.{pick}
-use Rattle.base.specs.Said.{Said, gives, refuses, and_then, refusal, failure, value_or}
+use Rattle.base.specs.Said.{refusal_code, Said, gives, refuses, and_then, answered}
 use Rattle.base.specs.Checks.{◌!◌, checked, answer}
 use Rattle.base.specs.All.{allb}
 use Rattle.record_entry.specs.declared.MBRPartitionEntry.{MBRPartitionEntry}
@@ -15,12 +17,7 @@ use Rattle.table.specs.Table.{count_check, most, logicals, extended_in, rounded}
 use Rattle.table_free.specs.Sort.{sort}
 use Rattle.table_free.specs.declared.Run.{Run}
 use Rattle.table_free.specs.declared.Runs.{Runs}
-use Rattle.table_free.specs.declared.FreeAnswer.{FreeAnswer}
 use Rattle.table_free.specs.declared.Points.{Points}
-use Rattle.table_free.specs.declared.Gap.{Gap}
-use Rattle.table_free.specs.declared.Ends.{Ends}
-use Rattle.table_free.specs.declared.Ends.TheVariants.{Nothing as NoEnds, Two, OutOfRange as NoSum}
-use Rattle.table_free.specs.declared.Gap.TheVariants.{Nothing, Free, OutOfRange}
 
 abbrev pub run : ℕ → ℕ → Run
 run start n = record { start = start; length = n }
@@ -101,8 +98,8 @@ joined rs v = and_then v (λ ss. gives (rs ++ ss))
 
 -- rule F21: the extended area, from X to its end
 abbrev pub inner : ℕ → Option MBRPartitionEntry → List LogicalPartition → Said (List Run)
-inner align none ls = gives []
-inner align (some e) ls = area align e.starting_lba (e.starting_lba + e.sectors) (logical_zones ls)
+inner align None ls = gives []
+inner align (Some e) ls = area align e.starting_lba (e.starting_lba + e.sectors) (logical_zones ls)
 
 -- rule F3
 abbrev pub outer : MBR → Said (List Run)
@@ -138,8 +135,12 @@ abbrev pub most_points : ℕ
 most_points = 2 + 2 * most
 
 -- the positions collected so far
-abbrev pub points_said : Points → Said (List ℕ)
-points_said p = pick p.fits (gives (take p.count p.at)) (refuses 7)
+abbrev pub points_in : Points → List ℕ
+points_in p = take p.count p.at
+
+-- what a step says of them
+abbrev pub points_said : Result Points Refusal → Said (List ℕ)
+points_said r = and_then (answered r) (λ p. gives (points_in p))
 
 -- with those of further runs
 abbrev pub more : Said (List ℕ) → List Run → Said (List ℕ)
@@ -150,38 +151,20 @@ abbrev pub closed : Said (List ℕ) → ℕ → Said (List ℕ)
 closed v to = and_then v (λ ps. answer ((7 ! ltb to u32) ∷ []) (ps ++ (to ∷ [])))
 
 -- what lies between two positions
-abbrev pub gap_said : Gap → Said (List Run)
-gap_said Nothing = gives []
-gap_said (Free r) = gives (r ∷ [])
-gap_said OutOfRange = refuses 7
+abbrev pub gap_said : Result (Option Run) Refusal → Said (List Run)
+gap_said (Ok None) = gives []
+gap_said (Ok (Some r)) = gives (r ∷ [])
+gap_said (Err r) = refuses (refusal_code r)
 
 -- the positions of an entry
-abbrev pub ends_said : Ends → Said (List ℕ)
-ends_said NoEnds = gives []
-ends_said (Two first last) = gives (first ∷ last ∷ [])
-ends_said NoSum = refuses 7
-
--- where the extended area begins
-abbrev pub begin : Option MBRPartitionEntry → ℕ
-begin none = 0
-begin (some e) = e.starting_lba
-
--- the area that ends with the extended entry, once its other positions are collected
-abbrev pub within : ℕ → Option MBRPartitionEntry → Said (List ℕ) → Said (List Run)
-within align none v = gives []
-within align (some e) v = between align (closed v (e.starting_lba + e.sectors))
-
--- the free runs between the positions of the primaries, then those of the extended area
-abbrev pub free_in : ℕ → Said (List ℕ) → Option MBRPartitionEntry → Said (List ℕ) → Said (List Run)
-free_in align u o v = and_then (between align u) (λ rs. joined rs (within align o v))
+abbrev pub ends_said : Result (Option (ℕ × ℕ)) Refusal → Said (List ℕ)
+ends_said (Ok None) = gives []
+ends_said (Ok (Some (first, last))) = gives (first ∷ last ∷ [])
+ends_said (Err r) = refuses (refusal_code r)
 
 -- what an answer says: the refusal's number, or the runs
-abbrev pub said : Option ℕ → List Run → Said (List Run)
-said none rs = gives rs
-said (some k) rs = refuses k
-
-abbrev pub free_said : FreeAnswer → Said (List Run)
-free_said r = said (refusal r.answer) (runs_in r.runs)
+abbrev pub free_said : Result Runs Refusal → Said (List Run)
+free_said r = and_then (answered r) (λ x. gives (runs_in x))
 
 -- numbers of 32 bits
 abbrev pub Below : List ℕ → Type 0
@@ -198,6 +181,6 @@ abbrev pub Usable : ℕ → Said (List Run) → Type 0
 Usable align (gives rs) = (0 < align) × Ended rs
 Usable align (refuses k) = Unit {0}
 
--- what an answer says, whole: the refusal's number or none, and the runs with every slot behind them
-abbrev pub Told : FreeAnswer → Said (List Run) → Type 0
-Told r v = (refusal r.answer ≡ failure v) × (r.runs ≡ run_list (value_or [] v))
+-- what an answer says, whole: the refusal's number, or the runs with every slot behind them
+abbrev pub Told : Result Runs Refusal → Said (List Run) → Type 0
+Told r v = (free_said r ≡ v) × IfOk r (λ x. x ≡ run_list (runs_in x))

@@ -7,14 +7,12 @@ pub mod ascending;
 pub mod gaps;
 pub mod search;
 
-ghost use Rattle.std.specs.Prelude.{◌≡◌, [], ◌∷◌, ◌+◌, ◌≤◌, ◌<◌};
-ghost use Rattle.base.specs.Said.{gives, refuses};
-ghost use Rattle.record_mbr.specs.Mbr.{found as entryFound};
-ghost use Rattle.table_free.specs.Free.{u32, zone, run_list, points_said, more, closed, ends_said, begin, Told, most_points};
+ghost use Rattle.std.specs.Prelude.{◌≡◌, [], ◌∷◌, ◌+◌, ◌≤◌, ◌<◌, IfOk};
+ghost use Rattle.base.specs.Said.{gives};
+ghost use Rattle.table_free.specs.Free.{u32, zone, run_list, points_in, points_said, more, closed, ends_said, most_points};
 
-use base::{Answer, Refusal};
+use base::Refusal;
 use record_entry::MBRPartitionEntry;
-use record_mbr::Found;
 use table::LOGICALS;
 
 #[derive(Clone, Copy)]
@@ -26,45 +24,24 @@ pub struct Run {
 // The most runs of a table: 5 between primaries, and one more than there are logical partitions between those.
 pub const RUNS: usize = LOGICALS + 6;
 
+// A count beside an array: `run_list` of the definitions determines the slots behind the runs too.
 #[derive(Clone, Copy)]
 pub struct Runs {
     pub at: [Run; RUNS],
     pub count: usize,
 }
 
-#[derive(Clone, Copy)]
-pub struct FreeAnswer {
-    pub answer: Answer,
-    pub runs: Runs,
-}
-
-// What lies between two positions.
-#[derive(Clone, Copy)]
-pub enum Gap {
-    Nothing,
-    Free(Run),
-    OutOfRange,
-}
-
-// The positions of an entry.
-#[derive(Clone, Copy)]
-pub enum Ends {
-    Nothing,
-    Two(u32, u32),
-    OutOfRange,
-}
-
 // The most positions of an area: its two bounds, and two for each partition.
 pub const POINTS: usize = 2 + 2 * LOGICALS;
 
-// The positions of an area, and whether each sum that makes them is in range.
+// The positions of an area. A count beside an array: `with` gives back another one, and `to` ends it.
 #[derive(Clone, Copy)]
 pub struct Points {
     pub at: [u32; POINTS],
     pub count: usize,
-    pub fits: bool,
 }
 
+// No `u64::from`: the sums around it want the bound that this clause gives.
 pub fn wide(x: u32) -> u64
     ensures { (result ≡ x) × (result < u32) }
 {
@@ -72,72 +49,61 @@ pub fn wide(x: u32) -> u64
 }
 
 // The first and the last sector of an entry, if it is used; its start is counted from `place`.
-pub fn ends_of(place: u32, e: MBRPartitionEntry) -> Ends
+#[tactic(auto, using(base::proofs::Tests::tests), unfolding(crate::specs::Free::ends, base::specs::All::allb))]
+pub fn ends_of(place: u32, e: MBRPartitionEntry) -> Result<Option<(u32, u32)>, Refusal>
     ensures { ends_said result ≡ more (gives []) (zone place e) }
 {
-    if e.sys == 0 {
-        return Ends::Nothing;
+    if e.is_unused() {
+        return Ok(None);
     }
     let start = wide(place) + wide(e.starting_lba);
     let sum = start + wide(e.sectors);
-    if sum == 0 {
-        return Ends::OutOfRange;
+    if sum == 0 || 0xFFFFFFFF < sum {
+        return Err(Refusal::Arithmetic);
     }
-    if 0xFFFFFFFF < sum {
-        return Ends::OutOfRange;
-    }
-    Ends::Two(start as u32, (sum - 1) as u32)
+    Ok(Some((start as u32, (sum - 1) as u32)))
 }
 
 impl Points {
     pub fn from(first: u32) -> Points
-        ensures { (points_said result ≡ gives (first ∷ [])) × (result.count ≡ 1) }
+        ensures { (points_in result ≡ first ∷ []) × (result.count ≡ 1) }
     {
         let mut at = [0u32; POINTS];
         at[0] = first;
-        Points {
-            at: at,
-            count: 1,
-            fits: true,
-        }
+        Points { at: at, count: 1 }
     }
 
-    // With first and last sector of the entry, if it is used; its start is counted from `place`.
-    pub fn with(self, place: u32, e: MBRPartitionEntry) -> Points
+    // With first and last sector of the entry, if it is used; its start is counted from `place`: 7.
+    pub fn with(self, place: u32, e: MBRPartitionEntry) -> Result<Points, Refusal>
         requires { self.count + 2 ≤ most_points }
-        ensures { (points_said result ≡ more (points_said self) (zone place e)) × (result.count ≤ self.count + 2) }
+        ensures said { points_said result ≡ more (gives (points_in self)) (zone place e) }
+        ensures few { IfOk result (λ p. p.count ≤ self.count + 2) }
     {
+        let Some((first, last)) = ends_of(place, e)? else {
+            return Ok(self);
+        };
         let n = self.count;
         let mut next = self;
-        match ends_of(place, e) {
-            Ends::Nothing => return next,
-            Ends::OutOfRange => {
-                next.fits = false;
-                return next;
-            }
-            Ends::Two(first, last) => {
-                next.at[n] = first;
-                next.at[n + 1] = last;
-                next.count = n + 2;
-            }
-        }
-        next
+        next.at[n] = first;
+        next.at[n + 1] = last;
+        next.count = n + 2;
+        Ok(next)
     }
 
-    // With the area's end.
-    pub fn to(self, end: u64) -> Points
+    // With the area's end: 7.
+    pub fn to(self, end: u64) -> Result<Points, Refusal>
         requires { self.count < most_points }
-        ensures { (points_said result ≡ closed (points_said self) end) × (result.count ≤ self.count + 1) }
+        ensures said { points_said result ≡ closed (gives (points_in self)) end }
+        ensures few { IfOk result (λ p. p.count ≤ self.count + 1) }
     {
+        if 0xFFFFFFFF < end {
+            return Err(Refusal::Arithmetic);
+        }
         let n = self.count;
         let mut next = self;
-        if 0xFFFFFFFF < end {
-            next.fits = false;
-            return next;
-        }
         next.at[n] = end as u32;
         next.count = n + 1;
-        next
+        Ok(next)
     }
 }
 
@@ -151,24 +117,5 @@ impl Runs {
         };
         let at = [none; RUNS];
         Runs { at: at, count: 0 }
-    }
-}
-
-pub fn refused(k: Refusal) -> FreeAnswer
-    ensures { Told result (refuses k.number) }
-{
-    FreeAnswer {
-        answer: Answer::Refused(k),
-        runs: Runs::new(),
-    }
-}
-
-// Where the extended area begins; 0 if there is none.
-pub fn begin_of(f: Found) -> u32
-    ensures { result ≡ begin (entryFound f) }
-{
-    match f {
-        Found::Entry(e) => e.starting_lba,
-        Found::Nothing => 0,
     }
 }

@@ -1,107 +1,71 @@
 // Free runs of a table, area by area: the crate's answer, and no truth about what is free.
-ghost use Rattle.std.specs.Prelude.{◌≡◌, [], ◌∷◌, ◌+◌, ◌≤◌, ◌<◌, take};
-ghost use Rattle.base.specs.Said.{gives};
-ghost use Rattle.record_mbr.specs.Mbr.{primaries, found as entryFound};
+ghost use Rattle.std.specs.Prelude.{◌≡◌, [], ◌∷◌, ◌+◌, ◌≤◌, ◌<◌, length, IfOk};
 ghost use Rattle.table.specs.Table.{most};
-ghost use Rattle.table_free.specs.Free.{primary_zones, logical_zones, joined, free, run_list, runs_in, points_said, more, between, positions, free_in, most_runs, Told, most_points, most_primary_points};
+ghost use Rattle.table_free.specs.Sort.{sort};
+ghost use Rattle.table_free.specs.Free.{primary_zones, logical_zones, joined, free, run_list, runs_in, runs_among, points_in, points_said, positions, most_runs, Told, most_points, most_primary_points};
 
-use crate::{FreeAnswer, Points, Runs};
-use base::{Answer, Refusal};
+use crate::{Points, Runs};
+use base::Refusal;
 use record_entry::MBRPartitionEntry;
-use record_mbr::{Found, MBRHeader};
 use table::{LOGICALS, LogicalPartition, MBR};
 
-// The runs of x, and the free ones of an area.
-fn search_area(p: Points, align: u32, x: Runs) -> FreeAnswer
+// The runs of x, and the free ones of an area: 7.
+pub fn search_area(p: Points, align: u32, x: Runs) -> Result<Runs, Refusal>
     requires { (0 < align) × ((x ≡ run_list (runs_in x)) × ((p.count ≤ most_points) × (x.count + x.count + p.count ≤ most_runs + most_runs))) }
-    ensures { Told result (joined (runs_in x) (between align (points_said p))) × (result.runs.count + result.runs.count ≤ x.count + x.count + p.count) }
+    ensures said { Told result (joined (runs_in x) (runs_among align (sort (points_in p)))) }
+    ensures few { IfOk result (λ r. r.count + r.count ≤ x.count + x.count + p.count) }
 {
-    if !p.fits {
-        return crate::refused(Refusal::ARITHMETIC);
-    }
     let n = p.count;
     let mut at = p.at;
     crate::ascending::sort(&mut at[..n]);
     crate::gaps::collect(&at[..n], align, x)
 }
 
-// The positions of four primary partitions.
-pub fn primary_points(
-    one: MBRPartitionEntry,
-    two: MBRPartitionEntry,
-    three: MBRPartitionEntry,
-    four: MBRPartitionEntry,
-    disk: u32,
-) -> Points
-    ensures { (points_said result ≡ positions 0 disk (primary_zones (one ∷ two ∷ three ∷ four ∷ []))) × (result.count ≤ most_primary_points) }
+// The positions of the primary partitions: 7.
+pub fn primary_points(entries: [MBRPartitionEntry; 4], disk: u32) -> Result<Points, Refusal>
+    ensures said { points_said result ≡ positions 0 disk (primary_zones entries) }
+    ensures few { IfOk result (λ p. p.count ≤ most_primary_points) }
 {
-    let all = Points::from(0)
-        .with(0, one)
-        .with(0, two)
-        .with(0, three)
-        .with(0, four);
-    all.to(crate::wide(disk))
-}
-
-// The positions of the logical partitions, after the extended area's first.
-fn logical_points(first: u32, ls: [LogicalPartition; LOGICALS], count: usize) -> Points
-    requires { count ≤ most }
-    ensures { (points_said result ≡ more (gives (first ∷ [])) (logical_zones (take count ls))) × (result.count < most_points) }
-{
-    let mut p = Points::from(first);
-    for i in 0..count {
-        let l = ls[i];
-        let e = l.partition;
-        p = p.with(l.absolute_ebr_lba.0, e);
+    let mut p = Points::from(0);
+    for e in &entries {
+        p = p.with(0, *e)?;
     }
-    p
+    p.to(crate::wide(disk))
 }
 
-// The free runs between the positions of the primaries, then those of the extended area, of which q has all positions but the last.
-pub fn free_in(align: u32, p: Points, found: Found, q: Points) -> FreeAnswer
-    requires { (0 < align) × ((p.count ≤ most_primary_points) × (q.count < most_points)) }
-    ensures { Told result (free_in align (points_said p) (entryFound found) (points_said q)) × (result.runs.count ≤ most_runs) }
+// The positions of the area of an extended entry: 7.
+fn extended_points(e: MBRPartitionEntry, logicals: &[LogicalPartition]) -> Result<Points, Refusal>
+    requires { length logicals.now ≤ most }
+    ensures said { points_said result ≡ positions e.starting_lba (e.starting_lba + e.sectors) (logical_zones logicals.now) }
+    ensures few { IfOk result (λ p. p.count ≤ most_points) }
 {
-    let none = Runs::new();
-    let first = search_area(p, align, none);
-    let answer = first.answer;
-    let Answer::Done = answer else {
-        return first;
-    };
-    let Found::Entry(e) = found else {
-        return first;
-    };
-    let runs = first.runs;
-    let end = crate::wide(e.starting_lba) + crate::wide(e.sectors);
-    search_area(q.to(end), align, runs)
-}
-
-// The positions of a header's primary partitions.
-fn points_of(h: MBRHeader, disk: u32) -> Points
-    ensures { (points_said result ≡ positions 0 disk (primary_zones (primaries h))) × (result.count ≤ most_primary_points) }
-{
-    let one = h.partition_1;
-    let two = h.partition_2;
-    let three = h.partition_3;
-    let four = h.partition_4;
-    primary_points(one, two, three, four, disk)
+    let mut p = Points::from(e.starting_lba);
+    for l in logicals {
+        p = p.with(l.absolute_ebr_lba.0, l.partition)?;
+    }
+    p.to(crate::wide(e.starting_lba) + crate::wide(e.sectors))
 }
 
 // Free runs of a table, as the crate finds them: rules G5 and F2 to F25.
-pub fn find_free_sectors(t: MBR) -> FreeAnswer
-    ensures { Told result (free t) × (result.runs.count ≤ most_runs) }
+pub fn find_free_sectors(t: MBR) -> Result<Runs, Refusal>
+    ensures said { Told result (free t) }
+    ensures few { IfOk result (λ r. r.count ≤ most_runs) }
 {
     let count = t.count;
     if LOGICALS < count {
-        return crate::refused(Refusal::TOO_MANY);
+        return Err(Refusal::TooManyLogicals);
     }
     let align = t.align;
     if align == 0 {
-        return crate::refused(Refusal::ARITHMETIC);
+        return Err(Refusal::Arithmetic);
     }
     let h = t.header;
-    let ls = t.logical_partitions;
-    let found = h.get_extended_partition();
-    let q = logical_points(crate::begin_of(found), ls, count);
-    free_in(align, points_of(h, t.disk_size), found, q)
+    let entries = [h.partition_1, h.partition_2, h.partition_3, h.partition_4];
+    let outer = primary_points(entries, t.disk_size)?;
+    let runs = search_area(outer, align, Runs::new())?;
+    let Some(e) = h.get_extended_partition() else {
+        return Ok(runs);
+    };
+    let inner = extended_points(e, &t.logical_partitions[..count])?;
+    search_area(inner, align, runs)
 }

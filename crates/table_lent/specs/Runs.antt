@@ -1,12 +1,9 @@
 -- Free runs in a list that the caller lends: the array form's refusals, then 19 for fewer than thirty; the runs found stand first, the rest is as it was. Assumes nothing.
-use Rattle.std.specs.Prelude.{ℕ, ◌≤◌, ◌≡◌, List, [], ◌++◌, length, drop}
-use Rattle.base.specs.Said.{Said, gives, refuses, and_then, value_or}
+use Rattle.std.specs.Prelude.{ℕ, List, [], ◌++◌, length, drop}
+use Rattle.base.specs.Said.{Said, gives, and_then, value_or}
 use Rattle.table.specs.declared.MBR.{MBR}
 use Rattle.table_free.specs.declared.Run.{Run}
-use Rattle.table_free.specs.Free.{free, for_room, run_list, most_runs}
-use Rattle.table_lent.specs.declared.planned.RunPlan.{RunPlan}
-use Rattle.table_lent.specs.declared.planned.RunCount.{RunCount}
-use Rattle.table_lent.specs.declared.planned.RunCount.TheVariants.{Found, Refused}
+use Rattle.table_free.specs.Free.{free, for_room, most_runs}
 
 -- rule F26: the runs of a table for a list of n
 unfoldable pub free_for : MBR → ℕ → Said (List Run)
@@ -23,17 +20,3 @@ free_count t n = and_then (free_for t n) (λ rs. gives (length rs))
 -- rule F28: the lent list afterwards, a refusal leaves it as it was
 abbrev pub free_list : MBR → List Run → List Run
 free_list t l = first (value_or [] (free_for t (length l))) l
-
--- what an answer says
-abbrev pub run_count_said : RunCount → Said ℕ
-run_count_said (Found n) = gives n
-run_count_said (Refused r) = refuses r.number
-
--- the plan for a list of n, whole: the answer; how many runs are to be stored, for which the list has room; and the runs that the search found, with every slot behind them
-abbrev pub Planned : MBR → ℕ → RunPlan → Type 0
-Planned t n r =
-    (run_count_said r.answer ≡ free_count t n)
-    × (r.stores ≡ length (value_or [] (free_for t n)))
-    × (r.runs ≡ (run_list (value_or [] (free t))).at)
-    × (r.stores ≤ most_runs)
-    × (r.stores ≤ n)

@@ -1,3 +1,2 @@
 pub mod Decision
-pub mod Laws
 pub mod Numbers

@@ -1,7 +1,7 @@
 -- The entry of a number is that of the list of entries. Assumes nothing.
 use mathlib.Core.Path.{◌≡◌, refl}
 use mathlib.Core.Bool.{Bool, true, false}
-use mathlib.Core.Option.{none, some}
+use Rattle.std.specs.Prelude.{None, Some}
 use mathlib.Core.List.{List, [], ◌∷◌}
 use Prim.Native.Nat.{ℕ, zero, suc, ◌-◌, ◌≤◌, ◌<◌}
 use native.Mathlib.Omega.{arith}
@@ -33,7 +33,7 @@ next k c false e =
     let h : c ≤ k = ltb-false k c e in
     le-ltb (suc k) (suc c) (omega arith)
 
-taken : (l : List LogicalPartition) (c k : ℕ) → c ≤ length l → pick (ltb k c) (some (get_or l k no_logical).partition) none ≡ nth (parts (take c l)) k
+taken : (l : List LogicalPartition) (c k : ℕ) → c ≤ length l → pick (ltb k c) (Some (get_or l k no_logical).partition) None ≡ nth (parts (take c l)) k
 unfolding nth
 taken l zero k h = rw (le-ltb k 0 (omega arith))
 taken [] (suc c) k h = absurd (omega arith)

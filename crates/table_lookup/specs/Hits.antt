@@ -1,18 +1,14 @@
 -- The first of a list of entries that holds a sector. Assumes nothing.
 use Rattle.std.specs.Prelude.{ℕ, suc, ◌+◌, ◌^◌, List, [], ◌∷◌, ◌++◌, Bool, true, false, ◌≡◌, length, ltb, leb}
-use Rattle.std.proofs.Math.Option.{Option, none, some}
+use Rattle.std.specs.Prelude.{Option, None, Some}
 use Rattle.base.specs.Pick.{pick}
-use Rattle.base.specs.Said.{Said, gives, refuses, and_then}
+use Rattle.base.specs.Said.{Said, gives, and_then}
 use Rattle.base.specs.Checks.{◌!◌, answer}
 use Rattle.record_entry.specs.declared.MBRPartitionEntry.{MBRPartitionEntry}
 use Rattle.record_entry.specs.Entry.{used, end_of}
 use Rattle.table.specs.declared.MBR.{MBR}
 use Rattle.table.specs.Table.{logicals, parts}
-use Rattle.table_lookup.specs.declared.hits.Holds.{Holds}
-use Rattle.table_lookup.specs.declared.hits.Holds.TheVariants.{No, Yes, Refused as HoldsRefused}
 use Rattle.table_lookup.specs.declared.hits.Numbered.{Numbered}
-use Rattle.table_lookup.specs.declared.hits.Hit.{Hit}
-use Rattle.table_lookup.specs.declared.hits.Hit.TheVariants.{Nothing as NoHit, At, Refused as HitRefused}
 
 -- does an entry hold a sector; its end is formed only if the entry is used and starts at or before the sector, beyond u32 7 (rules L7 and L10)
 unfoldable pub holds_says : ℕ → MBRPartitionEntry → Said Bool
@@ -25,29 +21,12 @@ numbered n e = record { number = n; entry = e }
 
 -- the first of the entries, numbered from n on, that holds the sector (rule L12)
 unfoldable pub first_at : ℕ → ℕ → List MBRPartitionEntry → Said (Option Numbered)
-first_at s n [] = gives none
-first_at s n (e ∷ es) = and_then (holds_says s e) (λ b. pick b (gives (some (numbered n e))) (first_at s (suc n) es))
+first_at s n [] = gives None
+first_at s n (e ∷ es) = and_then (holds_says s e) (λ b. pick b (gives (Some (numbered n e))) (first_at s (suc n) es))
 
 -- the logical partitions are numbered from 5 on (rules L12 and Z48)
 unfoldable pub among_logicals : MBR → ℕ → Said (Option Numbered)
 among_logicals t s = first_at s 5 (parts (logicals t))
-
--- what the answers say
-abbrev pub holds_said : Holds → Said Bool
-holds_said No = gives false
-holds_said Yes = gives true
-holds_said (HoldsRefused r) = refuses r.number
-
-abbrev pub hit_said : Hit → Said (Option Numbered)
-hit_said NoHit = gives none
-hit_said (At h) = gives (some h)
-hit_said (HitRefused r) = refuses r.number
-
--- a search that goes on: a hit or a refusal stays (rule L10)
-abbrev pub onward : ℕ → Said (Option Numbered) → ℕ → List MBRPartitionEntry → Said (Option Numbered)
-onward s (gives none) n es = first_at s n es
-onward s (gives (some h)) n es = gives (some h)
-onward s (refuses k) n es = refuses k
 
 -- none of the entries holds the sector, and none of their ends is beyond u32
 abbrev pub Outside : ℕ → List MBRPartitionEntry → Type 0

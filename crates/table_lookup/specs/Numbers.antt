@@ -1,8 +1,8 @@
 -- Partition numbers: none for 0, a primary for 1 to 4, a logical partition for 5 and up. Assumes nothing.
 use Rattle.std.specs.Prelude.{ℕ, zero, suc, ◌+◌, ◌-◌, List, [], ◌∷◌, eqb, ltb, get_or}
-use Rattle.std.proofs.Math.Option.{Option, none, some}
+use Rattle.std.specs.Prelude.{Option, None, Some}
 use Rattle.base.specs.Pick.{pick}
-use Rattle.base.specs.Said.{Said, gives, refuses}
+use Rattle.base.specs.Said.{Said}
 use Rattle.base.specs.Checks.{answer}
 use Rattle.record_entry.specs.declared.MBRPartitionEntry.{MBRPartitionEntry}
 use Rattle.record_mbr.specs.Mbr.{primary_of}
@@ -10,10 +10,6 @@ use Rattle.table.specs.declared.MBR.{MBR}
 use Rattle.table.specs.Table.{count_check, no_logical}
 use Rattle.table_lookup.specs.declared.Kind.{Kind}
 use Rattle.table_lookup.specs.declared.Kind.TheVariants.{Nothing as NoKind, Primary, Logical}
-use Rattle.table_lookup.specs.declared.Got.{Got}
-use Rattle.table_lookup.specs.declared.Got.TheVariants.{Nothing, Entry, Refused}
-use Rattle.table_lookup.specs.declared.Count.{Count}
-use Rattle.table_lookup.specs.declared.Count.TheVariants.{Is, Refused as CountRefused}
 
 -- the decision over the numbers (rule L1)
 abbrev pub kind_of : ℕ → Kind
@@ -21,10 +17,10 @@ kind_of i = pick (eqb i 0) NoKind (pick (ltb i 5) (Primary i) (Logical (i - 5)))
 
 -- the entry of logical partition number k, counted from 0 (rule L1)
 abbrev pub logical_of : MBR → ℕ → Option MBRPartitionEntry
-logical_of t k = pick (ltb k t.count) (some (get_or t.logical_partitions k no_logical).partition) none
+logical_of t k = pick (ltb k t.count) (Some (get_or t.logical_partitions k no_logical).partition) None
 
 abbrev pub of_kind : MBR → Kind → Option MBRPartitionEntry
-of_kind t NoKind = none
+of_kind t NoKind = None
 of_kind t (Primary i) = primary_of t.header i
 of_kind t (Logical k) = logical_of t k
 
@@ -42,16 +38,6 @@ len_says t = answer (count_check t ∷ []) (4 + t.count)
 
 -- element number k of a list, counted from 0
 unfoldable pub nth : {A : Type 0} → List A → ℕ → Option A
-nth [] k = none
-nth (x ∷ xs) zero = some x
+nth [] k = None
+nth (x ∷ xs) zero = Some x
 nth (x ∷ xs) (suc k) = nth xs k
-
--- what the answers say
-abbrev pub got_said : Got → Said (Option MBRPartitionEntry)
-got_said Nothing = gives none
-got_said (Entry e) = gives (some e)
-got_said (Refused r) = refuses r.number
-
-abbrev pub count_said : Count → Said ℕ
-count_said (Is n) = gives n
-count_said (CountRefused r) = refuses r.number

@@ -7,14 +7,15 @@ pub mod at_sector;
 pub mod hits;
 
 ghost use Rattle.std.specs.Prelude.{◌≡◌};
-ghost use Rattle.table_lookup.specs.Numbers.{kind_of, get_says, len_says, got_said, count_said};
+ghost use Rattle.base.specs.Said.{answered};
+ghost use Rattle.table_lookup.specs.Numbers.{kind_of, get_says, len_says};
 
-use base::{Answer, Refusal};
+use base::Refusal;
 use record_entry::MBRPartitionEntry;
-use record_mbr::Found;
 use table::MBR;
 
-// What a partition number names: nothing, a primary by its number from 1 to 4, a logical partition counted from 0.
+// What a partition number names: nothing, a primary by its number from 1 to 4, a logical partition counted from 0. An enum of its
+// own: an Option of two kinds would be matched in two steps.
 #[derive(Clone, Copy)]
 pub enum Kind {
     Nothing,
@@ -22,29 +23,8 @@ pub enum Kind {
     Logical(usize),
 }
 
-// An entry, none, or a refusal.
-#[derive(Clone, Copy)]
-pub enum Got {
-    Nothing,
-    Entry(MBRPartitionEntry),
-    Refused(Refusal),
-}
-
-// A number of partitions, or a refusal.
-#[derive(Clone, Copy)]
-pub enum Count {
-    Is(usize),
-    Refused(Refusal),
-}
-
-// A table, and what the call says beside it.
-#[derive(Clone, Copy)]
-pub struct TableAnswer {
-    pub answer: Answer,
-    pub table: MBR,
-}
-
 // The decision over partition numbers 0, 1 to 4, 5 and up.
+#[tactic(auto, using(base::proofs::Tests::tests))]
 pub fn kind_of(i: usize) -> Kind
     ensures { result ≡ kind_of i }
 {
@@ -56,40 +36,38 @@ pub fn kind_of(i: usize) -> Kind
 }
 
 // The entry of a partition number: 6.
-pub fn get(t: MBR, i: usize) -> Got
-    ensures { got_said result ≡ get_says t i }
+pub fn get(t: MBR, i: usize) -> Result<Option<MBRPartitionEntry>, Refusal>
+    ensures { answered result ≡ get_says t i }
 {
     let n = t.count;
     if table::LOGICALS < n {
-        return Got::Refused(Refusal::TOO_MANY);
+        return Err(Refusal::TooManyLogicals);
     }
     match kind_of(i) {
-        Kind::Nothing => Got::Nothing,
+        Kind::Nothing => Ok(None),
         Kind::Primary(k) => {
             let h = t.header;
-            match h.get(k) {
-                Found::Nothing => Got::Nothing,
-                Found::Entry(e) => Got::Entry(e),
-            }
+            Ok(h.get(k))
         }
         Kind::Logical(k) => {
             if n <= k {
-                return Got::Nothing;
+                return Ok(None);
             }
             let l = t.logical_partitions[k];
             let e = l.partition;
-            Got::Entry(e)
+            Ok(Some(e))
         }
     }
 }
 
 // How many partitions there are, the four primaries always counted: 6.
-pub fn len(t: MBR) -> Count
-    ensures { count_said result ≡ len_says t }
+pub fn len(t: MBR) -> Result<usize, Refusal>
+    ensures { answered result ≡ len_says t }
 {
     let n = t.count;
-    if table::LOGICALS < n {
-        return Count::Refused(Refusal::TOO_MANY);
+    if n <= table::LOGICALS {
+        Ok(4 + n)
+    } else {
+        Err(Refusal::TooManyLogicals)
     }
-    Count::Is(4 + n)
 }

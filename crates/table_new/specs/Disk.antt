@@ -27,10 +27,6 @@ new_table size disk signature =
 unfoldable pub new_says : List ℕ → List ℕ → Said MBR
 new_says x signature = and_then (check_says x) (λ e. gives (new_table e.sector_size e.disk_size signature))
 
--- what stands in the place of a new table that is refused
-abbrev pub no_new : List ℕ → MBR
-no_new signature = new_table 0 0 signature
-
 -- the table with the sector size and D of an extract; all else as given (rule N2)
 abbrev pub on_disk : MBR → Extract → MBR
 on_disk t e =

@@ -4,15 +4,14 @@
 #![tactic(auto)]
 
 ghost use Rattle.std.specs.Prelude.{◌≡◌};
-ghost use Rattle.base.specs.Said.{refusal, failure, value_or};
-ghost use Rattle.table_new.specs.Disk.{new_table, new_says, no_new, update_says};
+ghost use Rattle.base.specs.Said.{answered, refusal, failure, value_or};
+ghost use Rattle.table_new.specs.Disk.{new_table, new_says, update_says};
 
-use base::{Answer, Refusal};
-use extract::Header;
+use base::Refusal;
 use record_mbr::MBRHeader;
 use table::{LogicalPartition, MBR};
-use table_lookup::TableAnswer;
 
+#[tactic(auto, unfolding(crate::specs::Disk::new_table))]
 fn new_table(size: u32, disk: u32, disk_signature: [u8; 4]) -> MBR
     ensures { result ≡ new_table size disk disk_signature }
 {
@@ -33,46 +32,25 @@ fn new_table(size: u32, disk: u32, disk_signature: [u8; 4]) -> MBR
 }
 
 // A new table for the disk of an extract: 1.
-pub fn new_from(x: &[u8], disk_signature: [u8; 4]) -> TableAnswer
-    ensures answer_value { refusal result.answer ≡ failure (new_says x.now disk_signature) }
-    ensures table_value { result.table ≡ value_or (no_new disk_signature) (new_says x.now disk_signature) }
+#[tactic(auto, unfolding(crate::specs::Disk::new_says))]
+pub fn new_from(x: &[u8], disk_signature: [u8; 4]) -> Result<MBR, Refusal>
+    ensures { answered result ≡ new_says x.now disk_signature }
 {
-    match extract::check(x) {
-        Header::Refused(r) => TableAnswer {
-            answer: Answer::Refused(r),
-            table: new_table(0, 0, disk_signature),
-        },
-        Header::Good(e) => TableAnswer {
-            answer: Answer::Done,
-            table: new_table(e.sector_size, e.disk_size, disk_signature),
-        },
-    }
+    let e = extract::check(x)?;
+    Ok(new_table(e.sector_size, e.disk_size, disk_signature))
 }
 
-// Puts a table on the disk of an extract: 6, 1.
-pub fn update_from(t: MBR, x: &[u8]) -> TableAnswer
-    ensures answer_value { refusal result.answer ≡ failure (update_says t x.now) }
-    ensures table_value { result.table ≡ value_or t (update_says t x.now) }
+// Puts a table on the disk of an extract: 6, 1; if refused, the table stays.
+#[tactic(auto, using(base::proofs::Tests::tests), unfolding(crate::specs::Disk::update_says))]
+pub fn update_from(t: &mut MBR, x: &[u8]) -> Result<(), Refusal>
+    ensures answer_value { refusal result ≡ failure (update_says t.old x.now) }
+    ensures table_value { t.new ≡ value_or t.old (update_says t.old x.now) }
 {
     if table::LOGICALS < t.count {
-        return TableAnswer {
-            answer: Answer::Refused(Refusal::TOO_MANY),
-            table: t,
-        };
+        return Err(Refusal::TooManyLogicals);
     }
-    match extract::check(x) {
-        Header::Refused(why) => TableAnswer {
-            answer: Answer::Refused(why),
-            table: t,
-        },
-        Header::Good(e) => {
-            let mut u = t;
-            u.sector_size = e.sector_size;
-            u.disk_size = e.disk_size;
-            TableAnswer {
-                answer: Answer::Done,
-                table: u,
-            }
-        }
-    }
+    let disk = extract::check(x)?;
+    t.sector_size = disk.sector_size;
+    t.disk_size = disk.disk_size;
+    Ok(())
 }

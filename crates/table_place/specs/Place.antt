@@ -1,6 +1,6 @@
 -- Places and sizes over the list of free runs. Assumes nothing.
 use Rattle.std.specs.Prelude.{ℕ, ◌+◌, ◌-◌, ◌*◌, ◌/◌, max, List, [], ◌∷◌, eqb, ltb, leb}
-use Rattle.std.proofs.Math.Option.{Option, none, some}
+use Rattle.std.specs.Prelude.{Option, None, Some}
 use Rattle.base.specs.Pick.{pick}
 use Rattle.base.specs.Said.{Said, gives, refuses, and_then}
 use Rattle.base.specs.Checks.{◌!◌, answer}
@@ -8,29 +8,9 @@ use Rattle.record_entry.specs.declared.MBRPartitionEntry.{MBRPartitionEntry}
 use Rattle.table.specs.declared.MBR.{MBR}
 use Rattle.table_lookup.specs.Numbers.{entry_of}
 use Rattle.table_free.specs.declared.Run.{Run}
-use Rattle.table_place.specs.declared.Place.{Place}
-use Rattle.table_place.specs.declared.Place.TheVariants.{Nowhere, At, Refused}
-use Rattle.table_place.specs.declared.Size.{Size}
-use Rattle.table_place.specs.declared.Size.TheVariants.{Sectors, Refused as NoSize}
 use Rattle.table_place.specs.declared.Rule.{Rule}
 use Rattle.table_place.specs.declared.Rule.TheVariants.{First, Last, Smallest}
-use Rattle.table_place.specs.declared.ChosenRun.{ChosenRun}
-use Rattle.table_place.specs.declared.ChosenRun.TheVariants.{Nothing, Free}
 use Rattle.table_free.specs.Free.{u32, free}
-
--- what the answers say
-abbrev pub place_said : Place → Said (Option ℕ)
-place_said Nowhere = gives none
-place_said (At p) = gives (some p)
-place_said (Refused r) = refuses r.number
-
-abbrev pub size_said : Size → Said ℕ
-size_said (Sectors n) = gives n
-size_said (NoSize r) = refuses r.number
-
-abbrev pub spotted : ChosenRun → Option Run
-spotted Nothing = none
-spotted (Free r) = some r
 
 -- rule Q1: the runs that are long enough
 unfoldable pub roomy : ℕ → List Run → List Run
@@ -38,22 +18,22 @@ roomy size [] = []
 roomy size (r ∷ rs) = pick (leb size r.length) (r ∷ roomy size rs) (roomy size rs)
 
 abbrev pub first_run : List Run → Option Run
-first_run [] = none
-first_run (r ∷ rs) = some r
+first_run [] = None
+first_run (r ∷ rs) = Some r
 
 abbrev pub last_run : List Run → Option Run
-last_run [] = none
-last_run (r ∷ []) = some r
+last_run [] = None
+last_run (r ∷ []) = Some r
 last_run (r ∷ s ∷ rs) = last_run (s ∷ rs)
 
 -- rule Q1: the first of the smallest
 abbrev pub smaller : Run → Option Run → Run
-smaller r none = r
-smaller r (some s) = pick (leb r.length s.length) r s
+smaller r None = r
+smaller r (Some s) = pick (leb r.length s.length) r s
 
 abbrev pub smallest_of : List Run → Option Run
-smallest_of [] = none
-smallest_of (r ∷ rs) = some (smaller r (smallest_of rs))
+smallest_of [] = None
+smallest_of (r ∷ rs) = Some (smaller r (smallest_of rs))
 
 abbrev pub chosen : Rule → List Run → Option Run
 chosen First rs = first_run rs
@@ -68,18 +48,18 @@ prefer Smallest b r = pick (ltb r.length b.length) r b
 
 abbrev pub preferred : Rule → Option Run → List Run → Option Run
 preferred rule o [] = o
-preferred rule none (r ∷ rs) = preferred rule (some r) rs
-preferred rule (some b) (r ∷ rs) = preferred rule (some (prefer rule b r)) rs
+preferred rule None (r ∷ rs) = preferred rule (Some r) rs
+preferred rule (Some b) (r ∷ rs) = preferred rule (Some (prefer rule b r)) rs
 
 -- rule Q1
 abbrev pub start_of : Option Run → Option ℕ
-start_of none = none
-start_of (some r) = some r.start
+start_of None = None
+start_of (Some r) = Some r.start
 
 -- rule Q3: as far right in the run as the alignment lets it
 abbrev pub rightmost : ℕ → ℕ → Option Run → Option ℕ
-rightmost align size none = none
-rightmost align size (some r) = some ((r.start + r.length - size) / align * align)
+rightmost align size None = None
+rightmost align size (Some r) = Some ((r.start + r.length - size) / align * align)
 
 -- rules Q1 and Q3: the places in a list of runs
 abbrev pub start_by : Rule → ℕ → Said (List Run) → Said (Option ℕ)
@@ -127,8 +107,8 @@ grown e (r ∷ rs) =
 
 -- rule Q14: 15 if there is no such partition
 abbrev pub grown_by : Option MBRPartitionEntry → List Run → Said ℕ
-grown_by none rs = refuses 15
-grown_by (some e) rs = grown e rs
+grown_by None rs = refuses 15
+grown_by (Some e) rs = grown e rs
 
 -- free runs' refusals before those of the lookup
 abbrev pub growth : Said (Option MBRPartitionEntry) → Said (List Run) → Said ℕ

@@ -8,25 +8,9 @@ pub mod sizes;
 
 ghost use Rattle.std.specs.Prelude.{◌≡◌, [], ◌∷◌, ◌≤◌};
 ghost use Rattle.table_free.specs.Free.{runs_in, most_runs};
-ghost use Rattle.table_place.specs.Place.{spotted, roomy, chosen, preferred};
+ghost use Rattle.table_place.specs.Place.{roomy, chosen, preferred};
 
-use base::Refusal;
 use table_free::{Run, Runs};
-
-// A place, none, or a refusal.
-#[derive(Clone, Copy)]
-pub enum Place {
-    Nowhere,
-    At(u32),
-    Refused(Refusal),
-}
-
-// A number of sectors, or a refusal.
-#[derive(Clone, Copy)]
-pub enum Size {
-    Sectors(u32),
-    Refused(Refusal),
-}
 
 // Which of the runs that are long enough.
 #[derive(Clone, Copy)]
@@ -36,43 +20,38 @@ pub enum Rule {
     Smallest,
 }
 
-// A run, or none.
-#[derive(Clone, Copy)]
-pub enum ChosenRun {
-    Nothing,
-    Free(Run),
-}
-
 // The better of the best so far and a later run, if that is long enough.
-fn better(rule: Rule, size: u32, best: ChosenRun, r: Run) -> ChosenRun
-    ensures { spotted result ≡ preferred rule (spotted best) (roomy size (r ∷ [])) }
+#[tactic(auto, using(base::proofs::Tests::tests), unfolding(crate::specs::Place::roomy))]
+fn better(rule: Rule, size: u32, best: Option<Run>, r: Run) -> Option<Run>
+    ensures { result ≡ preferred rule best (roomy size (r ∷ [])) }
 {
     if r.length < size {
         return best;
     }
-    let ChosenRun::Free(b) = best else {
-        return ChosenRun::Free(r);
+    let Some(b) = best else {
+        return Some(r);
     };
     match rule {
-        Rule::First => ChosenRun::Free(b),
-        Rule::Last => ChosenRun::Free(r),
+        Rule::First => Some(b),
+        Rule::Last => Some(r),
         Rule::Smallest => {
             if r.length < b.length {
-                return ChosenRun::Free(r);
+                return Some(r);
             }
-            ChosenRun::Free(b)
+            Some(b)
         }
     }
 }
 
 // The run that the rule takes of those that are long enough.
-pub fn spot_in(x: Runs, rule: Rule, size: u32) -> ChosenRun
+#[tactic(auto, using(crate::proofs::Laws::steps))]
+pub fn spot_in(x: Runs, rule: Rule, size: u32) -> Option<Run>
     requires { x.count ≤ most_runs }
-    ensures { spotted result ≡ chosen rule (roomy size (runs_in x)) }
+    ensures { result ≡ chosen rule (roomy size (runs_in x)) }
 {
-    let mut best = ChosenRun::Nothing;
-    for i in 0..x.count {
-        best = better(rule, size, best, x.at[i]);
+    let mut best = None;
+    for r in &x.at[..x.count] {
+        best = better(rule, size, best, *r);
     }
     best
 }

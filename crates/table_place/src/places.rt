@@ -1,64 +1,48 @@
 // Places for a partition, over the free runs of a table: rules Q1 and Q3.
-ghost use Rattle.std.specs.Prelude.{◌≡◌, ◌≤◌};
-ghost use Rattle.table_free.specs.Free.{free_said, most_runs, Usable};
-ghost use Rattle.table_place.specs.Place.{place_said, start_by, last_by, first_place, last_place, optimal_place};
+ghost use Rattle.std.specs.Prelude.{◌≡◌, ◌≤◌, ◌<◌};
+ghost use Rattle.base.specs.Said.{answered};
+ghost use Rattle.table_free.specs.Free.{runs_in, most_runs, Ended};
+ghost use Rattle.table_place.specs.declared.Rule.TheVariants.{Last};
+ghost use Rattle.table_place.specs.Place.{roomy, chosen, start_of, rightmost, first_place, last_place, optimal_place};
 
-use crate::{ChosenRun, Place, Rule};
-use base::Answer;
+use crate::Rule;
+use base::Refusal;
 use table::MBR;
-use table_free::FreeAnswer;
+use table_free::Runs;
+use table_free::search::find_free_sectors;
 
 // The start of the run that the rule takes.
-pub fn start_by(f: FreeAnswer, rule: Rule, size: u32) -> Place
-    requires { f.runs.count ≤ most_runs }
-    ensures { place_said result ≡ start_by rule size (free_said f) }
+pub fn start_by(x: Runs, rule: Rule, size: u32) -> Option<u32>
+    requires { x.count ≤ most_runs }
+    ensures { result ≡ start_of (chosen rule (roomy size (runs_in x))) }
 {
-    let answer = f.answer;
-    if let Answer::Refused(number) = answer {
-        return Place::Refused(number);
-    }
-    let runs = f.runs;
-    let ChosenRun::Free(r) = crate::spot_in(runs, rule, size) else {
-        return Place::Nowhere;
-    };
-    Place::At(r.start)
-}
-
-pub fn find_first_place(t: MBR, size: u32) -> Place
-    ensures { place_said result ≡ first_place t size }
-{
-    start_by(table_free::search::find_free_sectors(t), Rule::First, size)
-}
-
-pub fn find_optimal_place(t: MBR, size: u32) -> Place
-    ensures { place_said result ≡ optimal_place t size }
-{
-    start_by(
-        table_free::search::find_free_sectors(t),
-        Rule::Smallest,
-        size,
-    )
+    let r = crate::spot_in(x, rule, size)?;
+    Some(r.start)
 }
 
 // As far right as possible in the last run that is long enough.
-pub fn last_by(f: FreeAnswer, align: u32, size: u32) -> Place
-    requires { (f.runs.count ≤ most_runs) × Usable align (free_said f) }
-    ensures { place_said result ≡ last_by align size (free_said f) }
+pub fn last_by(x: Runs, align: u32, size: u32) -> Option<u32>
+    requires { (x.count ≤ most_runs) × ((0 < align) × Ended (runs_in x)) }
+    ensures { result ≡ rightmost align size (chosen Last (roomy size (runs_in x))) }
 {
-    let answer = f.answer;
-    if let Answer::Refused(k) = answer {
-        return Place::Refused(k);
-    }
-    let runs = f.runs;
-    let ChosenRun::Free(r) = crate::spot_in(runs, Rule::Last, size) else {
-        return Place::Nowhere;
-    };
-    Place::At((r.start + r.length - size) / align * align)
+    let r = crate::spot_in(x, Rule::Last, size)?;
+    Some((r.start + r.length - size) / align * align)
 }
 
-pub fn find_last_place(t: MBR, size: u32) -> Place
-    ensures { place_said result ≡ last_place t size }
+pub fn find_first_place(t: MBR, size: u32) -> Result<Option<u32>, Refusal>
+    ensures { answered result ≡ first_place t size }
 {
-    let align = t.align;
-    last_by(table_free::search::find_free_sectors(t), align, size)
+    Ok(start_by(find_free_sectors(t)?, Rule::First, size))
+}
+
+pub fn find_optimal_place(t: MBR, size: u32) -> Result<Option<u32>, Refusal>
+    ensures { answered result ≡ optimal_place t size }
+{
+    Ok(start_by(find_free_sectors(t)?, Rule::Smallest, size))
+}
+
+pub fn find_last_place(t: MBR, size: u32) -> Result<Option<u32>, Refusal>
+    ensures { answered result ≡ last_place t size }
+{
+    Ok(last_by(find_free_sectors(t)?, t.align, size))
 }

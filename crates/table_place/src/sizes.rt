@@ -1,64 +1,52 @@
 // Sizes, over the free runs of a table: rules Q10 to Q14.
-ghost use Rattle.std.specs.Prelude.{◌≡◌, ◌≤◌, ◌<◌, max};
-ghost use Rattle.table_lookup.specs.Numbers.{got_said};
-ghost use Rattle.table_free.specs.Free.{runs_in, free_said, most_runs, Usable};
-ghost use Rattle.table_place.specs.Place.{size_said, largest, size_by, maximum_size, length_at, grown, growth, maximum_for};
+ghost use Rattle.std.specs.Prelude.{◌≡◌, ◌≤◌, ◌<◌};
+ghost use Rattle.base.specs.Said.{answered};
+ghost use Rattle.table_free.specs.Free.{runs_in, most_runs};
+ghost use Rattle.table_place.specs.Place.{largest, or_sixteen, maximum_size, length_at, grown, maximum_for};
 
-use crate::Size;
-use base::{Answer, Refusal};
+use base::Refusal;
 use record_entry::MBRPartitionEntry;
 use table::MBR;
-use table_free::{FreeAnswer, Runs};
-use table_lookup::Got;
-
-fn larger(a: u32, b: u32) -> u32
-    ensures { result ≡ max a b }
-{
-    if a < b { b } else { a }
-}
+use table_free::Runs;
+use table_free::search::find_free_sectors;
 
 // The largest length in whole alignments.
+#[tactic(auto, using(crate::proofs::Laws::steps))]
 fn largest_in(x: Runs, align: u32) -> u32
     requires { (x.count ≤ most_runs) × (0 < align) }
     ensures { result ≡ largest align (runs_in x) }
 {
     let mut most = 0;
-    for i in 0..x.count {
-        let r = x.at[i];
-        most = larger(most, r.length / align * align);
+    for r in &x.at[..x.count] {
+        most = u32::max(most, r.length / align * align);
     }
     most
 }
 
-pub fn size_by(f: FreeAnswer, align: u32) -> Size
-    requires { (f.runs.count ≤ most_runs) × Usable align (free_said f) }
-    ensures { size_said result ≡ size_by align (free_said f) }
+// The largest length in whole alignments: 16 if there is no run.
+pub fn size_by(x: Runs, align: u32) -> Result<u32, Refusal>
+    requires { (x.count ≤ most_runs) × (0 < align) }
+    ensures { answered result ≡ or_sixteen align (runs_in x) }
 {
-    let answer = f.answer;
-    if let Answer::Refused(k) = answer {
-        return Size::Refused(k);
+    if x.count == 0 {
+        return Err(Refusal::NoSpaceLeft);
     }
-    let runs = f.runs;
-    if runs.count == 0 {
-        return Size::Refused(Refusal::NO_SPACE);
-    }
-    Size::Sectors(largest_in(runs, align))
+    Ok(largest_in(x, align))
 }
 
-pub fn get_maximum_partition_size(t: MBR) -> Size
-    ensures { size_said result ≡ maximum_size t }
+pub fn get_maximum_partition_size(t: MBR) -> Result<u32, Refusal>
+    ensures { answered result ≡ maximum_size t }
 {
-    let align = t.align;
-    size_by(table_free::search::find_free_sectors(t), align)
+    size_by(find_free_sectors(t)?, t.align)
 }
 
 // The length of the first run that starts at p; 0 if there is none.
+#[tactic(auto, using(crate::proofs::Laws::steps))]
 fn length_at(x: Runs, p: u32) -> u32
     requires { x.count ≤ most_runs }
     ensures { result ≡ length_at p (runs_in x) }
 {
-    for i in 0..x.count {
-        let r = x.at[i];
+    for r in &x.at[..x.count] {
         if r.start == p {
             return r.length;
         }
@@ -66,46 +54,34 @@ fn length_at(x: Runs, p: u32) -> u32
     0
 }
 
-// The size to which a partition can grow.
-fn grown(e: MBRPartitionEntry, x: Runs) -> Size
+// The size to which a partition can grow: 7.
+#[tactic(auto, using(crate::proofs::Laws::growing))]
+pub fn grown(e: MBRPartitionEntry, x: Runs) -> Result<u32, Refusal>
     requires { x.count ≤ most_runs }
-    ensures { size_said result ≡ grown e (runs_in x) }
+    ensures { answered result ≡ grown e (runs_in x) }
 {
     let sectors = e.sectors;
     let start = e.starting_lba;
     if x.count == 0 {
-        return Size::Sectors(sectors);
+        return Ok(sectors);
     }
     if 0xFFFFFFFF - start < sectors {
-        return Size::Refused(Refusal::ARITHMETIC);
+        return Err(Refusal::Arithmetic);
     }
     let more = length_at(x, start + sectors);
     if 0xFFFFFFFF - sectors < more {
-        return Size::Refused(Refusal::ARITHMETIC);
+        return Err(Refusal::Arithmetic);
     }
-    Size::Sectors(sectors + more)
+    Ok(sectors + more)
 }
 
-// The size to which a partition that was looked up can grow.
-pub fn grown_by(f: FreeAnswer, g: Got) -> Size
-    requires { f.runs.count ≤ most_runs }
-    ensures { size_said result ≡ growth (got_said g) (free_said f) }
+// The size to which the partition of a number can grow: the search's refusals, then 15 and 7.
+pub fn get_maximum_partition_size_for(t: MBR, i: usize) -> Result<u32, Refusal>
+    ensures { answered result ≡ maximum_for t i }
 {
-    let answer = f.answer;
-    if let Answer::Refused(k) = answer {
-        return Size::Refused(k);
-    }
-    let runs = f.runs;
-    match g {
-        Got::Nothing => Size::Refused(Refusal::NOT_FOUND),
-        Got::Entry(e) => grown(e, runs),
-        Got::Refused(k) => Size::Refused(k),
-    }
-}
-
-pub fn get_maximum_partition_size_for(t: MBR, i: usize) -> Size
-    ensures { size_said result ≡ maximum_for t i }
-{
-    let g = table_lookup::get(t, i);
-    grown_by(table_free::search::find_free_sectors(t), g)
+    let x = find_free_sectors(t)?;
+    let Some(e) = table_lookup::get(t, i)? else {
+        return Err(Refusal::PartitionNotFound);
+    };
+    grown(e, x)
 }

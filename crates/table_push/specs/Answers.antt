@@ -1,21 +1,12 @@
 -- What each answer of the crate says in the numbers of docs/RULES.md; check_geometry, get_cylinder_size. Assumes nothing.
-use Rattle.std.specs.Prelude.{ℕ, ◌*◌, [], ◌∷◌, Bool}
+use Rattle.record_chs.specs.declared.CHS.{CHS}
+use Rattle.std.specs.Prelude.{ℕ, ◌*◌, [], ◌∷◌, Bool, Option, Some, None}
 use Rattle.base.specs.Pick.{pick}
-use Rattle.base.specs.Said.{Said, gives, refuses}
+use Rattle.base.specs.Said.{Said}
 use Rattle.base.specs.Checks.{answer}
 use Rattle.record_chs.specs.Chs.{no_chs}
-use Rattle.table.specs.declared.MaybeSectors.{MaybeSectors}
-use Rattle.table.specs.declared.MaybeSectors.TheVariants.{Absent, Present}
-use Rattle.table.specs.declared.MaybeChs.{MaybeChs}
-use Rattle.table.specs.declared.MaybeChs.TheVariants.{Absent as NoChs, Present as SomeChs}
 use Rattle.table.specs.declared.MBR.{MBR}
 use Rattle.table.specs.Table.{count_check}
-use Rattle.table_push.specs.declared.Complete.{Complete}
-use Rattle.table_push.specs.declared.Complete.TheVariants as complete
-use Rattle.table_push.specs.declared.CylinderSize.{CylinderSize}
-use Rattle.table_push.specs.declared.CylinderSize.TheVariants as size
-use Rattle.table_push.specs.declared.PushAnswer.{PushAnswer}
-use Rattle.table_push.specs.declared.PushAnswer.TheVariants as push
 use Rattle.table_address.specs.Address.{complete as is_complete}
 use Rattle.table_push.specs.Push.{geometry_of}
 use Rattle.table_push.specs.Asked.{later_than}
@@ -30,21 +21,8 @@ abbrev pub cylinder_size_says : MBR → Said ℕ
 cylinder_size_says t = answer (count_check t ∷ []) (t.heads * t.sectors)
 
 -- only a partition behind others has link sectors and a last link CHS
-abbrev pub link_sectors : ℕ → ℕ → MaybeSectors
-link_sectors n size = pick (later_than n) (Present size) Absent
+abbrev pub link_sectors : ℕ → ℕ → Option ℕ
+link_sectors n size = pick (later_than n) (Some size) None
 
-abbrev pub link_last : ℕ → MaybeChs
-link_last n = pick (later_than n) (SomeChs no_chs) NoChs
-
--- what the answers say
-abbrev pub complete_said : Complete → Said Bool
-complete_said (complete.Is b) = gives b
-complete_said (complete.Refused r) = refuses r.number
-
-abbrev pub cylinder_size_said : CylinderSize → Said ℕ
-cylinder_size_said (size.Is n) = gives n
-cylinder_size_said (size.Refused r) = refuses r.number
-
-abbrev pub push_said : PushAnswer → Said ℕ
-push_said (push.Number n) = gives n
-push_said (push.Refused r) = refuses r.number
+abbrev pub link_last : ℕ → Option CHS
+link_last n = pick (later_than n) (Some no_chs) None

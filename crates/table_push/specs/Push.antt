@@ -1,6 +1,6 @@
 -- push: one more logical partition behind the others. Assumes nothing.
 use Rattle.std.specs.Prelude.{ℕ, ◌+◌, ◌-◌, List, [], ◌∷◌, ◌++◌, Bool, true, false, ltb, length, set}
-use Rattle.std.proofs.Math.Option.{Option, none, some}
+use Rattle.std.specs.Prelude.{Option, None, Some}
 use Rattle.base.specs.Pick.{pick}
 use Rattle.base.specs.Said.{Said}
 use Rattle.base.specs.Checks.{Check, ◌!◌, checked, answer}
@@ -8,8 +8,6 @@ use Rattle.record_chs.specs.Chs.{no_chs}
 use Rattle.record_entry.specs.declared.MBRPartitionEntry.{MBRPartitionEntry}
 use Rattle.record_entry.specs.Entry.{no_entry}
 use Rattle.record_ebr.specs.Ebr.{no_kept}
-use Rattle.table.specs.declared.MaybeSectors.TheVariants.{Absent, Present}
-use Rattle.table.specs.declared.MaybeChs.TheVariants.{Absent as NoChs, Present as SomeChs}
 use Rattle.table.specs.declared.LogicalPartition.{LogicalPartition}
 use Rattle.table.specs.declared.MBR.{MBR}
 use Rattle.table.specs.Table.{most, extended_in, with_logicals, count_check}
@@ -34,9 +32,9 @@ fresh later q =
             sectors = size_of q - q.align;
           };
       absolute_ebr_lba = record { 0 = place_of q };
-      ebr_sectors = pick later (Present (size_of q)) Absent;
+      ebr_sectors = pick later (Some (size_of q)) None;
       ebr_first_chs = no_chs;
-      ebr_last_chs = pick later (SomeChs no_chs) NoChs;
+      ebr_last_chs = pick later (Some no_chs) None;
       kept = no_kept;
     }
 
@@ -49,12 +47,12 @@ unfoldable pub geometry_checks : Bool → Request → List Check
 geometry_checks later q = slot_geometry q.geometry (fresh later q)
 
 abbrev pub is_some : Option MBRPartitionEntry → Bool
-is_some none = false
-is_some (some e) = true
+is_some None = false
+is_some (Some e) = true
 
 abbrev pub or_none : Option MBRPartitionEntry → MBRPartitionEntry
-or_none none = no_entry
-or_none (some e) = e
+or_none None = no_entry
+or_none (Some e) = e
 
 -- rules P2 to P20: push's refusals in their order, for the extended entry and n logical partitions (rule K8)
 unfoldable pub push_checks : Request → Option MBRPartitionEntry → ℕ → List Check

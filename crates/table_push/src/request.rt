@@ -1,12 +1,12 @@
 // What a push asks for: rounded, and held to the extended entry.
 ghost use Rattle.std.specs.Prelude.{◌≡◌, ◌+◌, ◌-◌, ◌*◌, ◌<◌};
-ghost use Rattle.base.specs.Said.{refusal};
+ghost use Rattle.base.specs.Said.{answered, refusal};
 ghost use Rattle.base.specs.Checks.{first-fail, answer};
 ghost use Rattle.table_push.specs.Asked.{place_of, size_of, round_checks, place_checks, end_checks, later_than};
-ghost use Rattle.table_push.specs.RequestAnswers.{rounded_said, at_place};
+ghost use Rattle.table_push.specs.RequestAnswers.{at_place};
 ghost use Rattle.table.specs.Table.{rounded};
 
-use base::{Answer, Refusal};
+use base::Refusal;
 use record_entry::MBRPartitionEntry;
 use table_address::Geometry;
 
@@ -27,13 +27,6 @@ pub struct EbrPlace {
     pub size: u32,
 }
 
-// A rounded place, or a refusal.
-#[derive(Clone, Copy)]
-pub enum Rounded {
-    At(EbrPlace),
-    Refused(Refusal),
-}
-
 // A number above 0 rounded up to a multiple of the alignment.
 fn round_up(align: u32, n: u32) -> u64
     requires { (0 < align) × (0 < n) }
@@ -43,78 +36,78 @@ fn round_up(align: u32, n: u32) -> u64
 }
 
 // Start and size rounded, each 7.
-pub fn rounding(q: Request) -> Rounded
-    ensures { rounded_said result ≡ answer (round_checks q) (at_place (place_of q) (size_of q)) }
+pub fn rounding(q: Request) -> Result<EbrPlace, Refusal>
+    ensures { answered result ≡ answer (round_checks q) (at_place (place_of q) (size_of q)) }
 {
     if q.start == 0 {
-        return Rounded::Refused(Refusal::ARITHMETIC);
+        return Err(Refusal::Arithmetic);
     }
     if q.align == 0 {
-        return Rounded::Refused(Refusal::ARITHMETIC);
+        return Err(Refusal::Arithmetic);
     }
     let at = round_up(q.align, q.start);
     if 4294967296 <= at {
-        return Rounded::Refused(Refusal::ARITHMETIC);
+        return Err(Refusal::Arithmetic);
     }
     if q.sectors == 0 {
-        return Rounded::Refused(Refusal::ARITHMETIC);
+        return Err(Refusal::Arithmetic);
     }
     let size = round_up(q.align, q.sectors);
     if 4294967296 <= size {
-        return Rounded::Refused(Refusal::ARITHMETIC);
+        return Err(Refusal::Arithmetic);
     }
-    Rounded::At(EbrPlace {
+    Ok(EbrPlace {
         at: at as u32,
         size: size as u32,
     })
 }
 
 // The place in the extended entry: 7, 9, 7, 10, 7, 11.
-pub fn place_rules(q: Request, p: EbrPlace, e: MBRPartitionEntry) -> Answer
+pub fn place_rules(q: Request, p: EbrPlace, e: MBRPartitionEntry) -> Result<(), Refusal>
     requires { (p.at ≡ place_of q) × (p.size ≡ size_of q) }
     ensures { refusal result ≡ first-fail (place_checks q e) }
 {
     let double = 2 * q.align as u64;
     if 4294967296 <= double {
-        return Answer::Refused(Refusal::ARITHMETIC);
+        return Err(Refusal::Arithmetic);
     }
     if (p.size as u64) < double {
-        return Answer::Refused(Refusal::TOO_FEW_SECTORS);
+        return Err(Refusal::NotEnoughSectorsToCreateLogicalPartition);
     }
     if 4294967296 <= p.at as u64 + q.align as u64 {
-        return Answer::Refused(Refusal::ARITHMETIC);
+        return Err(Refusal::Arithmetic);
     }
     if p.at < e.starting_lba {
-        return Answer::Refused(Refusal::BEFORE_EXTENDED);
+        return Err(Refusal::EBRStartsBeforeExtendedPartition);
     }
     let end = e.starting_lba as u64 + e.sectors as u64;
     if 4294967296 <= end {
-        return Answer::Refused(Refusal::ARITHMETIC);
+        return Err(Refusal::Arithmetic);
     }
     if end < double {
-        return Answer::Refused(Refusal::ARITHMETIC);
+        return Err(Refusal::Arithmetic);
     }
     if end - double < p.at as u64 {
-        return Answer::Refused(Refusal::NEAR_END);
+        return Err(Refusal::EBRStartsTooCloseToTheEndOfExtendedPartition);
     }
-    Answer::Done
+    Ok(())
 }
 
 // The end of a partition behind n others: for a later one 7, 12.
-pub fn end_rules(q: Request, p: EbrPlace, e: MBRPartitionEntry, n: usize) -> Answer
+pub fn end_rules(q: Request, p: EbrPlace, e: MBRPartitionEntry, n: usize) -> Result<(), Refusal>
     requires { (p.at ≡ place_of q) × (p.size ≡ size_of q) }
     ensures { refusal result ≡ first-fail (end_checks (later_than n) q e) }
 {
     if n == 0 {
-        return Answer::Done;
+        return Ok(());
     }
     let end = p.at as u64 + p.size as u64;
     let area = e.starting_lba as u64 + e.sectors as u64;
     if 4294967296 <= end {
-        return Answer::Refused(Refusal::ARITHMETIC);
+        return Err(Refusal::Arithmetic);
     }
     if area < end {
-        return Answer::Refused(Refusal::AFTER_END);
+        return Err(Refusal::EBREndsAfterExtendedPartition);
     }
-    Answer::Done
+    Ok(())
 }

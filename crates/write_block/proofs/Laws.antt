@@ -1,6 +1,6 @@
 -- A block as writing leaves it, and the table in it. Assumes nothing.
 use mathlib.Core.Path.{◌≡◌, refl, sym, ap, subst, ◌∙◌}
-use mathlib.Core.Option.{Option, none, some}
+use Rattle.std.specs.Prelude.{Option, None, Some}
 use mathlib.Core.List.{List, ◌++◌}
 use Prim.Native.Nat.{ℕ, ◌+◌, ◌≤◌}
 use native.Mathlib.Omega.{arith}
@@ -25,7 +25,7 @@ abbrev pub Left : List ℕ → List ℕ → Option MBRPartitionEntry → Type 0
 Left b c o = (c ≡ left_in o b (table_in b)) × (block_says c ≡ gives (left_by o (table_in b)))
 
 module _ (b : List ℕ) (h : Passed b) where
-  pub left-none : extended_in (table_in b) ≡ none → Left b b (extended_in (table_in b))
+  pub left-none : extended_in (table_in b) ≡ None → Left b b (extended_in (table_in b))
   left-none e = subst (Left b b) (sym e) (refl, block-done b (table_in b) (passes b h) refl)
 
   module _ (x : ℕ) (f : SlotsFit (as_written_in (table_in b) x)) where
@@ -45,6 +45,6 @@ module _ (b : List ℕ) (h : Passed b) where
         good-says (slots_put b ls) (relisted (table_in b) ls) (slots-good b ls 0 h f few)
         (slots-put b ls 0 h f few ∙ ap (λ (n : ℕ). with_logicals (table_in b) (ls ++ drop n (table_in b).logical_partitions) (table_in b).count) n)
 
-  pub left-some : (e : MBRPartitionEntry) (c : List ℕ) → extended_in (table_in b) ≡ some e → c ≡ slots_put b (as_written_in (table_in b) e.starting_lba)
+  pub left-some : (e : MBRPartitionEntry) (c : List ℕ) → extended_in (table_in b) ≡ Some e → c ≡ slots_put b (as_written_in (table_in b) e.starting_lba)
       → SlotsFit (as_written_in (table_in b) e.starting_lba) → Left b c (extended_in (table_in b))
   left-some e c i p f = subst (Left b c) (sym i) (p, ap block_says p ∙ settled_says e.starting_lba f)

@@ -1,6 +1,6 @@
 -- A block as writing leaves it. Assumes nothing.
 use Rattle.std.specs.Prelude.{ℕ, List}
-use Rattle.std.proofs.Math.Option.{Option, none, some}
+use Rattle.std.specs.Prelude.{Option, None, Some}
 use Rattle.record_entry.specs.declared.MBRPartitionEntry.{MBRPartitionEntry}
 use Rattle.table.specs.declared.MBR.{MBR}
 use Rattle.block.specs.Block.{slots_put}
@@ -8,5 +8,5 @@ use Rattle.write_rules.specs.AsWritten.{as_written_in}
 
 -- the slots of the table t in a block, as writing leaves them; as before without an extended entry (rule Z65)
 abbrev pub left_in : Option MBRPartitionEntry → List ℕ → MBR → List ℕ
-left_in none b t = b
-left_in (some e) b t = slots_put b (as_written_in t e.starting_lba)
+left_in None b t = b
+left_in (Some e) b t = slots_put b (as_written_in t e.starting_lba)

@@ -1,6 +1,6 @@
 // The slots of a block as writing leaves them, put where they stand. Internal.
 ghost use Rattle.std.specs.Prelude.{◌≡◌, ◌<◌, length};
-ghost use Rattle.std.proofs.Math.Option.{none};
+ghost use Rattle.std.specs.Prelude.{None};
 ghost use Rattle.base.specs.Checks.{first-fail};
 ghost use Rattle.table.specs.Table.{most};
 ghost use Rattle.block.specs.Block.{slot_put, slots_put, table_in, block_length, Passed};
@@ -20,14 +20,13 @@ fn put_fit(b: &mut [u8], i: usize, l: LogicalPartition)
 
 // Every logical partition of a block as writing leaves it, if the extended entry starts at x.
 pub fn put_slots(b: &mut [u8], x: u32)
-    requires { Passed b.old × (first-fail (slots_geometry (table_in b.old) x) ≡ none) }
+    requires { Passed b.old × (first-fail (slots_geometry (table_in b.old) x) ≡ None) }
     ensures b_after { b.new ≡ slots_put b.old (as_written_in (table_in b.old) x) }
     ensures slots_fit { SlotsFit (as_written_in (table_in b.old) x) }
 {
-    let n = block_read::fields::count(b);
-    for i in 0..n {
-        let v = write_logicals::addressed::addressed_slot(b, x, i);
-        let l = v.logical;
+    // By number: the partitions stand in the bytes of the block and not in a slice.
+    for i in 0..block_read::fields::count(b) {
+        let l = write_logicals::addressed::addressed_slot(b, x, i).unwrap();
         put_fit(b, i, l);
     }
 }

@@ -1,4 +1,6 @@
 -- Room for the new extract, and its parts. Assumes nothing.
+use Rattle.std.specs.Prelude.{Result}
+use Rattle.base.specs.declared.Refusal.{Refusal}
 use mathlib.Core.Path.{◌≡◌, sym, ap, ◌∙◌}
 use mathlib.Core.List.{List, ◌++◌}
 use Prim.Native.Nat.{ℕ, ◌+◌, ◌*◌, ◌≤◌, ◌<◌}
@@ -6,15 +8,13 @@ use native.Mathlib.Omega.{arith}
 use lib.ListN.{length}
 use borrow.Author.Tests.{lt-leb, le-leb}
 use Rattle.base.specs.Put.{put}
-use Rattle.base.specs.Said.{gives, refuses}
+use Rattle.base.specs.Said.{answered, gives, refuses}
 use Rattle.base.specs.All.{All}
 use Rattle.record_entry.specs.declared.MBRPartitionEntry.{MBRPartitionEntry}
 use Rattle.extract.specs.Extract.{sector_size_of, disk_sectors, records}
 use Rattle.extract.specs.Disk.{Store}
 use Rattle.extract.specs.Rules.{most_records}
 use Rattle.extract_lay.specs.Layover.{header_bytes}
-use Rattle.extract_lay.specs.Answers.{laid_said}
-use Rattle.extract_lay.specs.declared.Laid.{Laid}
 use Rattle.extract.proofs.header_out.Written.{three}
 use Rattle.extract_lay.proofs.Parts.{length-header}
 use Rattle.extract_lay.specs.declared.plan.Slot.{Slot}
@@ -38,17 +38,17 @@ module _ (x : List ℕ) (n m : ℕ) (first : List ℕ) (ls : List LogicalPartiti
   size : length (extract_over x ss) ≡ 24 + k * 516
   size = extract-long x n m first ls e w c ∙ ap (λ j. 24 + j * 516) (ap length (sym p) ∙ q)
 
-  pub room-many : most_records < k → (r : Laid) → laid_said r ≡ refuses 22 → Put r out out (written_room x ss (length out)) (extract_over x ss)
+  pub room-many : most_records < k → (r : Result ℕ Refusal) → answered r ≡ refuses 22 → Put r out out (written_room x ss (length out)) (extract_over x ss)
   unfolding written_room
   room-many h r s = record { says = s ∙ rw (many, lt-leb k most_records h); leaves = rw (many, lt-leb k most_records h) }
 
-  pub room-short : k ≤ most_records → length out < 24 + k * 516 → (r : Laid) → laid_said r ≡ refuses 19 → Put r out out (written_room x ss (length out)) (extract_over x ss)
+  pub room-short : k ≤ most_records → length out < 24 + k * 516 → (r : Result ℕ Refusal) → answered r ≡ refuses 19 → Put r out out (written_room x ss (length out)) (extract_over x ss)
   unfolding written_room
   room-short h o r s = record { says = s ∙ rw (many, le-leb k most_records h, size, lt-leb (24 + k * 516) (length out) o); leaves = rw (many, le-leb k most_records h, size, lt-leb (24 + k * 516) (length out) o) }
 
   pub room-fine : k ≤ most_records → 24 + k * 516 ≤ length out → (d₁ d₂ d₃ : List ℕ) (z d : ℕ) → z ≡ sector_size_of x → d ≡ disk_sectors x
       → d₁ ≡ put out 0 (header_bytes z d k) → d₂ ≡ put d₁ 24 (pieces slot_lba l) → d₃ ≡ put d₂ (24 + k * 4) (pieces (λ s. bytes_from x ss s.source) l)
-      → (r : Laid) → laid_said r ≡ gives (24 + k * 516) → Put r out d₃ (written_room x ss (length out)) (extract_over x ss)
+      → (r : Result ℕ Refusal) → answered r ≡ gives (24 + k * 516) → Put r out d₃ (written_room x ss (length out)) (extract_over x ss)
   unfolding written_room
   room-fine h o d₁ d₂ d₃ z d ez ed e₁ e₂ e₃ r s =
       let a = header_bytes z d k in

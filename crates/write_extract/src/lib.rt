@@ -6,7 +6,7 @@
 pub mod plan_for;
 
 ghost use Rattle.std.specs.Prelude.{◌≡◌, length};
-ghost use Rattle.std.proofs.Math.Option.{none};
+ghost use Rattle.std.specs.Prelude.{None};
 ghost use Rattle.base.specs.Checks.{first-fail};
 ghost use Rattle.extract.specs.Answers.{header_of};
 ghost use Rattle.block.specs.Block.{table_in, Passed};
@@ -18,7 +18,6 @@ ghost use Rattle.write_rules.specs.Answers.{Put};
 
 use base::Refusal;
 use extract::{Extract, RECORDS};
-use extract_lay::Laid;
 use record_entry::MBRPartitionEntry;
 
 // The new extract of record 0 and the m logical partitions of a block, if there is room: 22, 19.
@@ -30,23 +29,24 @@ pub fn put_table(
     b: &[u8],
     e: MBRPartitionEntry,
     m: usize,
-) -> Laid
+) -> Result<usize, Refusal>
     requires writing { Writing x.now k.count m first.now × (k ≡ header_of x.now) }
-    requires passed { Passed b.now × (m ≡ (table_in b.now).count) × (first-fail (slots_geometry (table_in b.now) e.starting_lba) ≡ none) }
+    requires passed { Passed b.now × (m ≡ (table_in b.now).count) × (first-fail (slots_geometry (table_in b.now) e.starting_lba) ≡ None) }
     ensures { Put result out.old out.new (written_room x.now (stores_of first.now e (as_written_in (table_in b.now) e.starting_lba)) (length out.old)) (extract_over x.now (stores_of first.now e (as_written_in (table_in b.now) e.starting_lba))) }
 {
     let n = k.count;
-    let p = crate::plan_for::plan_for(x, n, b, e.starting_lba, m);
-    let c = p.count;
+    let plan = crate::plan_for::plan_for(x, n, b, e.starting_lba, m);
+    let slots = plan.as_slice();
+    let c = slots.len();
     if RECORDS < c {
-        return Laid::Refused(Refusal::TOO_MANY_RECORDS);
+        return Err(Refusal::TooManyRecords);
     }
     let total = 24 + c * 516;
     if out.len() < total {
-        return Laid::Refused(Refusal::OUTPUT_SHORT);
+        return Err(Refusal::OutputTooShort);
     }
     extract::header_out::put_header(out, k.sector_size, k.disk_size, c);
-    extract_lay::plan::put_lbas(out, p);
-    write_records::put_records(out, 24 + c * 4, x, n, p, first, b, e, m);
-    Laid::Length(total)
+    extract_lay::plan::put_lbas(out, slots);
+    write_records::put_records(out, 24 + c * 4, x, n, slots, first, b, e, m);
+    Ok(total)
 }

@@ -5,22 +5,18 @@ ghost use Rattle.chain.specs.Facts.{at};
 ghost use Rattle.block.specs.Block.{table_in, Passed};
 ghost use Rattle.write_rules.specs.AsWritten.{at_start, first_at_start, as_written_in};
 
-use table::{DiskLba, LogicalPartition, MaybeChs, MaybeSectors};
+use table::{DiskLba, LogicalPartition};
 
 // The EBR at a place, without link sectors and last link CHS.
+#[tactic(auto, unfolding(write_rules::specs::AsWritten::at_start))]
 fn at_start(x: u32, l: LogicalPartition) -> LogicalPartition
     ensures { result ≡ at_start x l }
 {
-    let p = l.partition;
-    let first = l.ebr_first_chs;
-    let kept = l.kept;
     LogicalPartition {
-        partition: p,
         absolute_ebr_lba: DiskLba(x),
-        ebr_sectors: MaybeSectors::Absent,
-        ebr_first_chs: first,
-        ebr_last_chs: MaybeChs::Absent,
-        kept: kept,
+        ebr_sectors: None,
+        ebr_last_chs: None,
+        ..l
     }
 }
 

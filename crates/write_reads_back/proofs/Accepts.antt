@@ -1,7 +1,7 @@
 -- A returning table with its link fields is refused for room only. Assumes nothing.
 use mathlib.Core.Path.{◌≡◌, refl, sym, ap, subst, ◌∙◌}
 use mathlib.Core.Bool.{false}
-use mathlib.Core.Option.{Option, none, some}
+use Rattle.std.specs.Prelude.{Option, None, Some}
 use mathlib.Core.List.{List, [], ◌∷◌}
 use Prim.Native.Nat.{ℕ, ◌≤◌, ◌<◌}
 use native.Mathlib.Omega.{arith}
@@ -42,14 +42,14 @@ no-addresses g c [] = tt
 no-addresses g c (l ∷ ls) = rw c (no-addresses g c ls)
 
 -- each EBR is on the disk, with a right flag, and what follows has its link fields
-rows-hold : (hi d : ℕ) → hi ≤ d → (l : LogicalPartition) (ls : List LogicalPartition) → Row (Good hi) (l ∷ ls) none → All HasLink ls → AllHold (all_rows d (l ∷ ls))
+rows-hold : (hi d : ℕ) → hi ≤ d → (l : LogicalPartition) (ls : List LogicalPartition) → Row (Good hi) (l ∷ ls) None → All HasLink ls → AllHold (all_rows d (l ∷ ls))
 unfolding all_rows
 rows-hold hi d h l [] g k =
-    let f : Fit hi l none = good-fit hi l none g.0 in
+    let f : Fit hi l None = good-fit hi l None g.0 in
     ((is-flag l.partition).from g.0.own.flag, (lt-ltb (at l) d (omega (arith, f.above, f.ends)), (refl, tt)))
 rows-hold hi d h l (m ∷ ms) g k =
-    let f : Fit hi l (some m) = good-fit hi l (some m) g.0 in
-    let u : Row (Under hi) (l ∷ m ∷ ms) none = row_under hi hi (l ∷ m ∷ ms) none (fit_of hi (l ∷ m ∷ ms) none g) (omega arith) in (
+    let f : Fit hi l (Some m) = good-fit hi l (Some m) g.0 in
+    let u : Row (Under hi) (l ∷ m ∷ ms) None = row_under hi hi (l ∷ m ∷ ms) None (fit_of hi (l ∷ m ∷ ms) None g) (omega arith) in (
       (is-flag l.partition).from g.0.own.flag,
       (lt-ltb (at l) d (omega (arith, f.above, u.0)), (k.0, rows-hold hi d h m ms g.1 k.1)),
     )
@@ -64,15 +64,15 @@ module _ (t : MBR) (x : List ℕ) (room : ℕ) (r : Returning t) (few : t.count 
   chain-holds : (o : Option MBRPartitionEntry) → extended_in t ≡ o → (ls : List LogicalPartition) → logicals t ≡ ls → All HasLink (later ls)
       → AllHold (chain_checks (geometry_of t) o (disk_sectors x) ls)
   unfolding logicals_checks as_written first_at_start all_geometry all_rows
-  chain-holds none q ls p k = tt
-  chain-holds (some e) q [] p k = tt
-  chain-holds (some e) q (l ∷ ls) p k =
+  chain-holds None q ls p k = tt
+  chain-holds (Some e) q [] p k = tt
+  chain-holds (Some e) q (l ∷ ls) p k =
       let X = e.starting_lba in
       let g = geometry_of t in
       let a : Area t.disk_size e = area_of (contents_of t) e r.sound q in
       let first : FirstAt X (l ∷ ls) = subst (FirstAt X) p (sound-first (contents_of t) e r.sound q) in
-      let rows : Row (Good (end_of e)) (l ∷ ls) none =
-      subst (λ (m : List LogicalPartition). Row (Good (end_of e)) m none) p (sound-row (contents_of t) e r.sound q) in
+      let rows : Row (Good (end_of e)) (l ∷ ls) None =
+      subst (λ (m : List LogicalPartition). Row (Good (end_of e)) m None) p (sound-row (contents_of t) e r.sound q) in
       hold-both (all_geometry g (first_at_start X (l ∷ ls))) (all_rows (disk_sectors x) (as_written g X (l ∷ ls))) (no-addresses g r.no-geometry (first_at_start X (l ∷ ls)))
       (subst (λ (m : List LogicalPartition). AllHold (all_rows (disk_sectors x) m)) (sym (by-none g r.no-geometry (at_start X l ∷ ls)))
       (first-hold X (disk_sectors x) l ls first (rows-hold (end_of e) (disk_sectors x) (omega (arith, a.ends)) l ls rows k)))

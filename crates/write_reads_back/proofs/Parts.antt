@@ -1,7 +1,7 @@
 -- What the round trip's conditions say of the header, the logical partitions and the alignment. Assumes nothing.
 use mathlib.Core.Path.{◌≡◌, refl}
 use mathlib.Core.Bool.{Bool, true, false}
-use mathlib.Core.Option.{some}
+use Rattle.std.specs.Prelude.{Some, Option, None}
 use mathlib.Core.List.{List, [], ◌∷◌, map}
 use Prim.Native.Nat.{ℕ, ◌≤◌, ◌<◌}
 use native.Mathlib.Omega.{arith}
@@ -19,10 +19,6 @@ use Rattle.record_entry.specs.Entry.{used, EntryOk}
 use Rattle.record_mbr.specs.declared.MBRHeader.{MBRHeader}
 use Rattle.record_mbr.specs.Mbr.{MbrOk, header_checks}
 use Rattle.record_mbr.proofs.Laws.{mbr-flags}
-use Rattle.table.specs.declared.MaybeSectors.{MaybeSectors}
-use Rattle.table.specs.declared.MaybeSectors.TheVariants.{Absent, Present}
-use Rattle.table.specs.declared.MaybeChs.{MaybeChs}
-use Rattle.table.specs.declared.MaybeChs.TheVariants.{Absent as NoChs, Present as SomeChs}
 use Rattle.table.specs.declared.LogicalPartition.{LogicalPartition}
 use Rattle.table.specs.declared.MBR.{MBR}
 use Rattle.read_align.specs.Align.{used_starts, largest_start, alignment}
@@ -119,17 +115,17 @@ writables (l ∷ ls) c f = (
 linkable : (l : LogicalPartition) → LogicalChs l → LogicalIn l → link_there l.ebr_sectors l.ebr_last_chs ≡ true → Linkable l
 linkable l c f h = go l.ebr_sectors l.ebr_last_chs refl h c.1.1 f.last
   where
-    go : (s : MaybeSectors) (m : MaybeChs) → l.ebr_last_chs ≡ m → link_there s m ≡ true → IfThere m → ChsIn m → Linkable l
-    go Absent m q h i k = let w : ◌≡◌ {A = ℕ} 0 1 = cc in absurd (omega arith)
-    go (Present n) NoChs q h i k = let w : ◌≡◌ {A = ℕ} 0 1 = cc in absurd (omega arith)
-    go (Present n) (SomeChs a) q h i k = record { tail = a; last = q; first-ok = chs-ok l.ebr_first_chs c.1.0 f.first; last_ok = chs-ok a i k }
+    go : (s : Option ℕ) (m : Option CHS) → l.ebr_last_chs ≡ m → link_there s m ≡ true → IfThere m → ChsIn m → Linkable l
+    go None m q h i k = let w : ◌≡◌ {A = ℕ} 0 1 = cc in absurd (omega arith)
+    go (Some n) None q h i k = let w : ◌≡◌ {A = ℕ} 0 1 = cc in absurd (omega arith)
+    go (Some n) (Some a) q h i k = record { tail = a; last = q; first-ok = chs-ok l.ebr_first_chs c.1.0 f.first; last_ok = chs-ok a i k }
 
 -- those behind the first have their link fields once no check of writing fails
 pub linkables : (d : ℕ) (l : LogicalPartition) (ls : List LogicalPartition) → All LogicalChs ls → All LogicalIn ls → AllHold (all_rows d (l ∷ ls)) → All Linkable ls
 unfolding all_rows
 linkables d l [] c f h = tt
 linkables d l (m ∷ ms) c f h =
-    let r = row_checks d l (next_linked (some m)) in (
+    let r = row_checks d l (next_linked (Some m)) in (
       linkable m c.0 f.0 (hold-left r (all_rows d (m ∷ ms)) h).1.1.0,
       linkables d m ms c.1 f.1 (hold-right r (all_rows d (m ∷ ms)) h),
     )

@@ -1,6 +1,6 @@
 -- What is read comes back: a sound table that a good extract reads as is a returning one. Assumes nothing.
 use mathlib.Core.Path.{◌≡◌, refl, sym, ap, subst, ◌∙◌}
-use mathlib.Core.Option.{Option, none, some, get_or}
+use Rattle.std.specs.Prelude.{Option, None, Some, unwrap_or}
 use mathlib.Core.List.{List, [], ◌∷◌}
 use Prim.Native.Nat.{ℕ, ◌<◌}
 use native.Mathlib.Omega.{arith}
@@ -59,27 +59,27 @@ logical-fits X l n b p w = record {
 }
 
 -- the row of facts, one after the other
-row_fits : (d : Disk) → Whole d → (X : ℕ) (l : LogicalPartition) (ls : List LogicalPartition) → WayFits (link_in l) → Row (Held (seen d) X) (l ∷ ls) none → Row (Plain X) (l ∷ ls) none
+row_fits : (d : Disk) → Whole d → (X : ℕ) (l : LogicalPartition) (ls : List LogicalPartition) → WayFits (link_in l) → Row (Held (seen d) X) (l ∷ ls) None → Row (Plain X) (l ∷ ls) None
     → All LogicalIn (l ∷ ls)
-row_fits d w X l [] k h p = (logical-fits X l none (seen-ok d w (at l) (body_of l) (leads X none) h.0).1 p.0 k, tt)
+row_fits d w X l [] k h p = (logical-fits X l None (seen-ok d w (at l) (body_of l) (leads X None) h.0).1 p.0 k, tt)
 row_fits d w X l (m ∷ ms) k h p =
-    let s = seen-ok d w (at l) (body_of l) (leads X (some m)) h.0 in
-    (logical-fits X l (some m) s.1 p.0 k, row_fits d w X m ms (way-fits _ (link_in m) s.2) h.1 p.1)
+    let s = seen-ok d w (at l) (body_of l) (leads X (Some m)) h.0 in
+    (logical-fits X l (Some m) s.1 p.0 k, row_fits d w X m ms (way-fits _ (link_in m) s.2) h.1 p.1)
 
 list-fits : (d : Disk) → Whole d → (h : MBRHeader) → MbrOk h → (o : Option MBRPartitionEntry) → extended_of (primaries h) ≡ o → (ls : List LogicalPartition) → Holds (seen d) o ls → All LogicalIn ls
 list-fits d w h k o q [] c = tt
-list-fits d w h k none q (l ∷ ls) c = absurd c
-list-fits d w h k (some e) q (l ∷ ls) c =
+list-fits d w h k None q (l ∷ ls) c = absurd c
+list-fits d w h k (Some e) q (l ∷ ls) c =
     let f : EntryOk e = extended-has EntryOk h e k.one k.two k.three k.four q in
     let z : WayFits (link_in l) = subst WayFits (sym c.begins.1) (record { first = f.first.head; last = tt }) in
     row_fits d w e.starting_lba l ls z c.held c.plain
 
 -- the first of a list that was read stands in its place
-placed-already : (v : ℕ → View) (o : Option MBRPartitionEntry) (ls : List LogicalPartition) → Holds v o ls → first_in_place (get_or o no_entry) ls ≡ ls
+placed-already : (v : ℕ → View) (o : Option MBRPartitionEntry) (ls : List LogicalPartition) → Holds v o ls → first_in_place (unwrap_or o no_entry) ls ≡ ls
 unfolding first_in_place
 placed-already v o [] h = refl
-placed-already v none (l ∷ ls) h = absurd h
-placed-already v (some e) (l ∷ ls) h = first-same e l ls (holds-heads v e l ls h) ls
+placed-already v None (l ∷ ls) h = absurd h
+placed-already v (Some e) (l ∷ ls) h = first-same e l ls (holds-heads v e l ls h) ls
 
 module _ (x : List ℕ) (g : Good x) (u : Table) (q : read (disk_of x) ≡ gives u) where
   facts : Reads (disk_of x) u

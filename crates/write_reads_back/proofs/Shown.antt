@@ -1,6 +1,6 @@
 -- The disk with a returning table's records stored reads as that table under the first-place rule, its marks cleared. Assumes nothing.
 use mathlib.Core.Path.{◌≡◌, refl, sym, ap, subst, ◌∙◌}
-use mathlib.Core.Option.{Option, none, some, get_or}
+use Rattle.std.specs.Prelude.{Option, None, Some, unwrap_or}
 use mathlib.Core.List.{List, [], ◌∷◌, map}
 use Prim.Native.Nat.{ℕ, zero, suc, ◌^◌, ◌≤◌, ◌<◌}
 use native.Mathlib.Nat.{add-zero}
@@ -94,7 +94,7 @@ module _ (t : MBR) (x : List ℕ) (room n : ℕ) (r : Returning t) (b : Bytes x)
       }
 
   -- an extended entry and its logical partitions
-  module _ (e : MBRPartitionEntry) (q : extended_in t ≡ some e) (l : LogicalPartition) (ls : List LogicalPartition) (p : logicals t ≡ l ∷ ls)
+  module _ (e : MBRPartitionEntry) (q : extended_in t ≡ Some e) (l : LogicalPartition) (ls : List LogicalPartition) (p : logicals t ≡ l ∷ ls)
       (h : AllHold (logicals_checks (geometry_of t) e.starting_lba (disk_sectors x) (l ∷ ls))) where
     abbrev X : ℕ
     X = e.starting_lba
@@ -105,14 +105,14 @@ module _ (t : MBR) (x : List ℕ) (room n : ℕ) (r : Returning t) (b : Bytes x)
     area : Area t.disk_size e
     area = area_of c e r.sound q
 
-    goods : Row (Good (end_of e)) ms none
+    goods : Row (Good (end_of e)) ms None
     goods =
         let f : FirstAt X (l ∷ ls) = subst (FirstAt X) p (sound-first c e r.sound q) in
-        let g : Row (Good (end_of e)) (l ∷ ls) none = subst (λ (k : List LogicalPartition). Row (Good (end_of e)) k none) p (sound-row c e r.sound q) in
-        (moved-good e t.disk_size l (next ls none) area (first-stays e l f g.0.place) g.0, g.1)
+        let g : Row (Good (end_of e)) (l ∷ ls) None = subst (λ (k : List LogicalPartition). Row (Good (end_of e)) k None) p (sound-row c e r.sound q) in
+        (moved-good e t.disk_size l (next ls None) area (first-stays e l f g.0.place) g.0, g.1)
 
-    fits : Row (Fit (end_of e)) ms none
-    fits = fit_of (end_of e) ms none goods
+    fits : Row (Fit (end_of e)) ms None
+    fits = fit_of (end_of e) ms None goods
 
     chs : All LogicalChs (l ∷ ls)
     chs = subst (All LogicalChs) p r.sound.addresses.1
@@ -127,20 +127,20 @@ module _ (t : MBR) (x : List ℕ) (room n : ℕ) (r : Returning t) (b : Bytes x)
         subst (λ (k : List LogicalPartition). AllHold (all_rows (disk_sectors x) k)) (by-none g r.no-geometry (at_start X l ∷ ls))
         (hold-right (all_geometry g (first_at_start X (l ∷ ls))) (all_rows (disk_sectors x) (as_written g X (l ∷ ls))) h)
 
-    stores : Row (Storing X t.disk_size) ms none
+    stores : Row (Storing X t.disk_size) ms None
     stores =
         let w : All Writable (l ∷ ls) = writables (l ∷ ls) chs typed in
         storing X (end_of e) t.disk_size area.ends small (moved e l) ls (omega (arith, (moved-heads e l ls).0)) goods (moved-writable e l w.0, w.1)
         (linkables (disk_sectors x) (at_start X l) ls chs.1 typed.1 rows)
 
-    held : Row (Held (seen (after d₀ (ebr_stores e ms))) X) (map unmarked ms) none
+    held : Row (Held (seen (after d₀ (ebr_stores e ms))) X) (map unmarked ms) None
     held =
         row-stored e (end_of e) t.disk_size ms d₀ (extended-small e.sys area.ext) (size-stored (disk_of x) (header_store t.header) ∙ size_of x ∙ size) fits stores
 
     zeroth : (after d₀ (ebr_stores e ms)).sector 0 ≡ d₀.sector 0
-    zeroth = off-after e ms d₀ 0 (off-over (end_of e) 0 (moved e l) ls none fits (omega (arith, (moved-heads e l ls).0, area.start)))
+    zeroth = off-after e ms d₀ 0 (off-over (end_of e) 0 (moved e l) ls None fits (omega (arith, (moved-heads e l ls).0, area.start)))
 
-    holds : Holds (seen (after d₀ (ebr_stores e ms))) (some e) (map unmarked ms)
+    holds : Holds (seen (after d₀ (ebr_stores e ms))) (Some e) (map unmarked ms)
     unfolding unmarked link_in
     holds = record {
       begins = ((moved-heads e l ls).0 ∙ sym (add-zero X), (moved-heads e l ls).1);
@@ -149,11 +149,11 @@ module _ (t : MBR) (x : List ℕ) (room n : ℕ) (r : Returning t) (b : Bytes x)
       few = omega (arith, length-map ms unmarked, subst (λ (k : List LogicalPartition). length k ≤ most) p few);
     }
 
-    ebrs : chain_stores (geometry_of t) (some e) (l ∷ ls) ≡ ebr_stores e ms
+    ebrs : chain_stores (geometry_of t) (Some e) (l ∷ ls) ≡ ebr_stores e ms
     unfolding as_written first_at_start
     ebrs = ap (ebr_stores e) (by-none (geometry_of t) r.no-geometry (at_start X l ∷ ls)) ∙ same-stores e l ls
 
-    chained : contents_on (after d₀ (chain_stores (geometry_of t) (some e) (l ∷ ls))) ≡ gives (relist c (map unmarked ms))
+    chained : contents_on (after d₀ (chain_stores (geometry_of t) (Some e) (l ∷ ls))) ≡ gives (relist c (map unmarked ms))
     unfolding relist
     chained =
         ap (λ (ss : List Store). contents_on (after d₀ ss)) ebrs
@@ -163,12 +163,12 @@ module _ (t : MBR) (x : List ℕ) (room n : ℕ) (r : Returning t) (b : Bytes x)
   -- by cases of the extended entry and the list
   by_cases : (o : Option MBRPartitionEntry) → extended_in t ≡ o → (ls : List LogicalPartition) → logicals t ≡ ls → Filled o ls → Owned o ls
       → AllHold (chain_checks (geometry_of t) o (disk_sectors x) ls)
-      → contents_on (after d₀ (chain_stores (geometry_of t) o ls)) ≡ gives (relist c (map unmarked (first_in_place (get_or o no_entry) ls)))
+      → contents_on (after d₀ (chain_stores (geometry_of t) o ls)) ≡ gives (relist c (map unmarked (first_in_place (unwrap_or o no_entry) ls)))
   unfolding first_in_place relist after
-  by_cases none q [] p f w h = shows→contents d₀ (relist c []) (shown [] [] refl (rw q tt)) (primaries-aligned (primaries_of c) r.sound.starts)
-  by_cases none q (l ∷ ls) p f w h = absurd w
-  by_cases (some e) q [] p f w h = absurd f
-  by_cases (some e) q (l ∷ ls) p f w h = chained e q l ls p h
+  by_cases None q [] p f w h = shows→contents d₀ (relist c []) (shown [] [] refl (rw q tt)) (primaries-aligned (primaries_of c) r.sound.starts)
+  by_cases None q (l ∷ ls) p f w h = absurd w
+  by_cases (Some e) q [] p f w h = absurd f
+  by_cases (Some e) q (l ∷ ls) p f w h = chained e q l ls p h
 
   pub disk-returns : contents_on (after (disk_of x) (table_stores t)) ≡ gives (cleared (in_first_place c))
   unfolding table_stores in_first_place cleared relist after

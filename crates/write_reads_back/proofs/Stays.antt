@@ -1,7 +1,7 @@
 -- A table without logical partitions written over an extract with its header: the disk stays as it was. Assumes nothing.
 use mathlib.Core.Path.{◌≡◌, refl, sym, ap, subst, ◌∙◌}
 use mathlib.Core.Bool.{Bool, true, false}
-use mathlib.Core.Option.{Option, none, some}
+use Rattle.std.specs.Prelude.{Option, None, Some}
 use mathlib.Core.List.{List, [], ◌∷◌}
 use Prim.Native.Nat.{ℕ}
 use native.Mathlib.Omega.{arith}
@@ -42,7 +42,7 @@ module _ (x : List ℕ) (g : Good x) (h : MBRHeader) (e : header_on (disk_of x) 
   whole : Record r
   whole = sector-record x g 0
 
-  reads : first-fail (mbr_read_checks r) ≡ none
+  reads : first-fail (mbr_read_checks r) ≡ None
   reads =
       let f = header→facts (disk_of x) h e in
       all_hold (mbr_read_checks r) (eq-eqb (length r) 512 whole.long, subst (λ (y : MBRHeader). AllHold (header_checks y)) (sym f.1) f.2)
@@ -56,8 +56,8 @@ module _ (x : List ℕ) (g : Good x) (h : MBRHeader) (e : header_on (disk_of x) 
 -- no logical partition, no EBR
 no_stores : (g : Geometry) (o : Option MBRPartitionEntry) → chain_stores g o [] ≡ []
 unfolding as_written first_at_start ebr_stores
-no_stores g none = refl
-no_stores g (some e) = refl
+no_stores g None = refl
+no_stores g (Some e) = refl
 
 pub nothing-changes : (x : List ℕ) (t : MBR) → Good x → header_on (disk_of x) ≡ gives t.header → logicals t ≡ [] → after (disk_of x) (table_stores t) ≡ disk_of x
 unfolding table_stores after stored

@@ -1,6 +1,6 @@
 -- The round trip: a sound table that is written over an extract reads back as it was, but for its marks, which plain writing writes as zeros. Assumes nothing.
 use Rattle.std.specs.Prelude.{ℕ, ◌^◌, ◌≤◌, ◌<◌, ◌≡◌, true, false, List, [], ◌∷◌, map, length, take}
-use Rattle.std.proofs.Math.Option.{Option, none, some}
+use Rattle.std.specs.Prelude.{Option, None, Some}
 use Rattle.base.specs.Bytes.{Bytes}
 use Rattle.base.specs.Said.{Said, gives, and_then}
 use Rattle.base.specs.Checks.{AllHold, answer}
@@ -37,9 +37,9 @@ pub record Fits (t : MBR) : Type 0 where
 
 -- a logical partition, or no extended entry: an empty chain is not written, so what stood at X would be read
 abbrev pub Filled : Option MBRPartitionEntry → List LogicalPartition → Type 0
-Filled none ls = Unit {0}
-Filled (some e) [] = ⊥
-Filled (some e) (l ∷ ls) = Unit {0}
+Filled None ls = Unit {0}
+Filled (Some e) [] = ⊥
+Filled (Some e) (l ∷ ls) = Unit {0}
 
 -- a table that comes back: sound, no geometry set (a complete one would compute the addresses anew), and so filled
 pub record Returning (t : MBR) : Type 0 where

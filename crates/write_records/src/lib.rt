@@ -6,16 +6,16 @@
 pub mod one_record;
 
 ghost use Rattle.std.specs.Prelude.{◌≡◌, ◌+◌, ◌*◌, ◌≤◌, length};
-ghost use Rattle.std.proofs.Math.Option.{none};
+ghost use Rattle.std.specs.Prelude.{None};
 ghost use Rattle.base.specs.Put.{put};
 ghost use Rattle.base.specs.Checks.{first-fail};
 ghost use Rattle.extract.specs.Rules.{most_records};
-ghost use Rattle.extract_lay.specs.Plan.{planned, pieces};
+ghost use Rattle.extract_lay.specs.Plan.{pieces};
 ghost use Rattle.block.specs.Block.{table_in, Passed};
 ghost use Rattle.write_rules.specs.AsWritten.{as_written_in, slots_geometry};
 ghost use Rattle.write_rules.specs.Sources.{bytes_from, stores_of, slots_of, Writing};
 
-use extract_lay::plan::Plan;
+use extract_lay::plan::Slot;
 use record_entry::MBRPartitionEntry;
 use write_rules::sources::EBR_SOURCE;
 
@@ -25,20 +25,18 @@ pub fn put_records(
     at: usize,
     x: &[u8],
     n: usize,
-    p: Plan,
+    slots: &[Slot],
     first: &[u8],
     b: &[u8],
     e: MBRPartitionEntry,
     m: usize,
 )
-    requires writing { Writing x.now n m first.now × (planned p ≡ slots_of x.now (as_written_in (table_in b.now) e.starting_lba)) }
-    requires passed { Passed b.now × (m ≡ (table_in b.now).count) × (first-fail (slots_geometry (table_in b.now) e.starting_lba) ≡ none) }
-    requires count_le_most_records { (p.count ≤ most_records) × (at ≤ 4096) × (at + p.count * 512 ≤ length out.old) }
-    ensures { out.new ≡ put out.old at (pieces (λ s. bytes_from x.now (stores_of first.now e (as_written_in (table_in b.now) e.starting_lba)) s.source) (planned p)) }
+    requires writing { Writing x.now n m first.now × (slots.now ≡ slots_of x.now (as_written_in (table_in b.now) e.starting_lba)) }
+    requires passed { Passed b.now × (m ≡ (table_in b.now).count) × (first-fail (slots_geometry (table_in b.now) e.starting_lba) ≡ None) }
+    requires count_le_most_records { (length slots.now ≤ most_records) × (at ≤ 4096) × (at + length slots.now * 512 ≤ length out.old) }
+    ensures { out.new ≡ put out.old at (pieces (λ s. bytes_from x.now (stores_of first.now e (as_written_in (table_in b.now) e.starting_lba)) s.source) slots.now) }
 {
-    let k = p.count;
-    for i in 0..k {
-        let s = p.slots[i];
+    for (i, s) in slots.iter().enumerate() {
         let to = at + i * 512;
         if s.source < EBR_SOURCE {
             crate::one_record::put_kept(out, to, x, n, first, s.source);

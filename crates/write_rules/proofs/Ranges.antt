@@ -1,8 +1,10 @@
 -- Every record that is written of a table whose numbers fit their types is 512 bytes on the disk. Assumes nothing.
+use Rattle.record_chs.specs.declared.CHS.{CHS}
 use mathlib.Core.Path.{◌≡◌, refl}
 use mathlib.Core.List.{List, [], ◌∷◌, ◌++◌, map}
 use mathlib.Core.Bool.{Bool, true, false}
-use mathlib.Core.Option.{Option, none, some}
+use Rattle.std.specs.Prelude.{Option, None, Some, unwrap_or}
+use Rattle.record_chs.specs.Chs.{no_chs}
 use Prim.Native.Nat.{ℕ, ◌*◌, ◌<◌}
 use native.Mathlib.Omega.{arith}
 use lib.Dec.{eqb}
@@ -25,10 +27,6 @@ use Rattle.record_mbr.specs.Mbr.{mbr_bytes}
 use Rattle.record_mbr.proofs.Laws.{extended-has, long-there, mbr-bytes}
 use Rattle.extract.specs.Disk.{after}
 use Rattle.extract.specs.Extract.{disk_sectors, Good, disk_of}
-use Rattle.table.specs.declared.MaybeChs.{MaybeChs}
-use Rattle.table.specs.declared.MaybeChs.TheVariants.{Absent as NoChs, Present as SomeChs}
-use Rattle.table.specs.declared.MaybeSectors.{MaybeSectors}
-use Rattle.table.specs.declared.MaybeSectors.TheVariants.{Absent, Present}
 use Rattle.table.specs.declared.LogicalPartition.{LogicalPartition}
 use Rattle.table.specs.declared.MBR.{MBR}
 use Rattle.table.specs.Table.{logicals, extended_in}
@@ -37,7 +35,7 @@ use Rattle.table_address.specs.declared.Geometry.{Geometry}
 use Rattle.table_address.specs.Address.{complete, address_in, update_checks, link_address, addressed}
 use Rattle.table_push.specs.Push.{geometry_of}
 use Rattle.chain.specs.Facts.{at, body_of, link_in, leads}
-use Rattle.chain.specs.Links.{link_entry, ebr_for, chs_or_no}
+use Rattle.chain.specs.Links.{link_entry, ebr_for}
 use Rattle.write_rules.specs.AsWritten.{at_start, first_at_start, by_geometry, all_geometry, as_written, logicals_checks, next_linked, row_checks, all_rows}
 use Rattle.write_rules.specs.Write.{header_store, chain_stores, chain_checks, table_stores}
 use Rattle.write_rules.specs.Records.{write_plain, ebr_stores, extract_over}
@@ -57,17 +55,17 @@ header-whole h o =
     }
 
 abbrev NextIn : Option LogicalPartition → Type 0
-NextIn none = Unit {0}
-NextIn (some m) = LogicalIn m
+NextIn None = Unit {0}
+NextIn (Some m) = LogicalIn m
 
-last-in : (m : MaybeChs) → ChsIn m → (chs_or_no m).head < 256
-last-in NoChs k = omega arith
-last-in (SomeChs c) k = k
+last-in : (m : Option CHS) → ChsIn m → (unwrap_or m no_chs).head < 256
+last-in None k = omega arith
+last-in (Some c) k = k
 
 link-in : (sys X : ℕ) (n : Option LogicalPartition) → sys < 256 → NextIn n → InByte (link_entry sys (leads X n))
 unfolding link_entry link_in
-link-in sys X none s k = record { boot = omega arith; first = omega arith; sys = omega arith; last = omega arith }
-link-in sys X (some m) s k = record { boot = omega arith; first = k.first; sys = s; last = last-in m.ebr_last_chs k.last }
+link-in sys X None s k = record { boot = omega arith; first = omega arith; sys = omega arith; last = omega arith }
+link-in sys X (Some m) s k = record { boot = omega arith; first = k.first; sys = s; last = last-in m.ebr_last_chs k.last }
 
 ebr-whole : (e : MBRPartitionEntry) (l : LogicalPartition) (n : Option LogicalPartition) → e.sys < 256 → LogicalIn l → NextIn n → Record (write_plain e l n).bytes
 unfolding write_plain ebr_for body_of ebr_bytes
@@ -92,7 +90,7 @@ rows_inside : (d : ℕ) (ls : List LogicalPartition) → AllHold (all_rows d ls)
 unfolding all_rows
 rows_inside d [] h = tt
 rows_inside d (l ∷ ls) h =
-    let c = row_checks d l (next_linked (next ls none)) in
+    let c = row_checks d l (next_linked (next ls None)) in
     (ltb-true (at l) d (hold-left c (all_rows d ls) h).1.0, rows_inside d ls (hold-right c (all_rows d ls) h))
 
 -- the stores of logical partitions whose numbers fit, each on the disk
@@ -100,13 +98,13 @@ pub ebrs-storable : (d : ℕ) (e : MBRPartitionEntry) (ls : List LogicalPartitio
 unfolding ebr_stores write_plain
 ebrs-storable d e ls s k h = go ls k (rows_inside d ls h)
   where
-    following : (ls : List LogicalPartition) → All LogicalIn ls → NextIn (next ls none)
+    following : (ls : List LogicalPartition) → All LogicalIn ls → NextIn (next ls None)
     following [] k = tt
     following (m ∷ ms) k = k.0
 
     go : (ls : List LogicalPartition) → All LogicalIn ls → All (λ l. at l < d) ls → All (Storable d) (ebr_stores e ls)
     go [] k i = tt
-    go (l ∷ ls) k i = (record { inside = i.0; whole = ebr-whole e l (next ls none) s k.0 (following ls k.1) }, go ls k.1 i.1)
+    go (l ∷ ls) k i = (record { inside = i.0; whole = ebr-whole e l (next ls None) s k.0 (following ls k.1) }, go ls k.1 i.1)
 
 pub header-storable : (d : ℕ) (h : MBRHeader) → 0 < d → HeaderIn h → Storable d (header_store h)
 header-storable d h p k = record { inside = p; whole = header-whole h k }
@@ -122,9 +120,9 @@ module _ (g : Geometry) (heads : g.heads < 256) where
   address-in : (a : ℕ) → (g.heads * g.sectors ≡ 0 → ⊥) → (address_in g a).head < 256
   address-in a z = omega (arith, head-fits a g.heads g.sectors z)
 
-  tail-in : (a : ℕ) (m : MaybeSectors) → (g.heads * g.sectors ≡ 0 → ⊥) → ChsIn (link_address g a m)
-  tail-in a Absent z = tt
-  tail-in a (Present n) z = address-in _ z
+  tail-in : (a : ℕ) (m : Option ℕ) → (g.heads * g.sectors ≡ 0 → ⊥) → ChsIn (link_address g a m)
+  tail-in a None z = tt
+  tail-in a (Some n) z = address-in _ z
 
   geometry-in : (l : LogicalPartition) → LogicalIn l → AllHold (pick (complete g) (update_checks g l) []) → LogicalIn (by_geometry g l)
   unfolding update_checks addressed
@@ -156,8 +154,8 @@ table-storable t x room n e k =
     (header-storable d t.header (ltb-true 0 d (disk-held t x room n e).0) k.header, go (extended_in t) refl (chain_held t x room n e))
   where
     go : (o : Option MBRPartitionEntry) → extended_in t ≡ o → AllHold (chain_checks (geometry_of t) o (disk_sectors x) (logicals t)) → All (Storable (disk_sectors x)) (chain_stores (geometry_of t) o (logicals t))
-    go none q h = tt
-    go (some p) q h =
+    go None q h = tt
+    go (Some p) q h =
         let X = p.starting_lba in
         let g = geometry_of t in
         let ls = first_at_start X (logicals t) in

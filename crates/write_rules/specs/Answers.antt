@@ -1,11 +1,10 @@
 -- What writing says, the table it answers, and what it leaves in the output. Assumes nothing.
-use Rattle.std.specs.Prelude.{ℕ, List, [], ◌∷◌, ◌≡◌, length}
-use Rattle.std.proofs.Math.Option.{none}
+use Rattle.base.specs.declared.Refusal.{Refusal}
+use Rattle.std.specs.Prelude.{ℕ, List, [], ◌∷◌, ◌≡◌, length, Result}
+use Rattle.std.specs.Prelude.{None}
 use Rattle.base.specs.Put.{put}
-use Rattle.base.specs.Said.{Said, gives, refuses}
+use Rattle.base.specs.Said.{answered, Said, gives, refuses}
 use Rattle.base.specs.Checks.{Check, answer, checked, first-fail}
-use Rattle.extract_lay.specs.declared.Laid.{Laid}
-use Rattle.extract_lay.specs.Answers.{laid_said}
 use Rattle.record_mbr.specs.declared.MBRHeader.{MBRHeader}
 use Rattle.table.specs.declared.MBR.{MBR}
 use Rattle.table.specs.Table.{extended_in}
@@ -32,12 +31,12 @@ unfoldable pub header_leaves : MBRHeader → List ℕ → List ℕ → List ℕ
 header_leaves h x out = checked (header_only_checks h x (length out)) (λ k. out) (put out 0 (extract_over x (header_store h ∷ [])))
 
 -- an answer by refusals, and the output after it
-pub record Put (a : Laid) (out after : List ℕ) (cs : List Check) (new : List ℕ) : Type 0 where
-  pub says : laid_said a ≡ answer cs (length new)
+pub record Put (a : Result ℕ Refusal) (out after : List ℕ) (cs : List Check) (new : List ℕ) : Type 0 where
+  pub says : answered a ≡ answer cs (length new)
   pub leaves : after ≡ checked cs (λ k. out) (put out 0 new)
 
 -- the same of writing a table over x
-abbrev pub Lays : Laid → MBR → List ℕ → List ℕ → List ℕ → List Check → Type 0
+abbrev pub Lays : Result ℕ Refusal → MBR → List ℕ → List ℕ → List ℕ → List Check → Type 0
 Lays a t x out after cs = Put a out after cs (extract_over x (table_stores t))
 
 -- the table that an answer leads to
@@ -47,5 +46,5 @@ table_by (refuses k) t u = t
 
 -- a table that was written has no refused address
 abbrev pub Fine : Said ℕ → MBR → Type 0
-Fine (gives n) t = first-fail (chain_geometry (extended_in t) t) ≡ none
+Fine (gives n) t = first-fail (chain_geometry (extended_in t) t) ≡ None
 Fine (refuses k) t = Unit {0}

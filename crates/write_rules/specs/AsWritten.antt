@@ -1,13 +1,10 @@
 -- The logical partitions as writing leaves them, and the refusals of their geometry and of each EBR. Assumes nothing.
+use Rattle.record_chs.specs.declared.CHS.{CHS}
 use Rattle.std.specs.Prelude.{ℕ, List, [], ◌∷◌, ◌++◌, map, Bool, true, false, ltb, drop}
-use Rattle.std.proofs.Math.Option.{Option, none, some}
+use Rattle.std.specs.Prelude.{Option, None, Some}
 use Rattle.base.specs.Checks.{Check, ◌!◌}
 use Rattle.base.specs.Row.{next}
 use Rattle.record_entry.specs.Entry.{flag_ok}
-use Rattle.table.specs.declared.MaybeSectors.{MaybeSectors}
-use Rattle.table.specs.declared.MaybeSectors.TheVariants.{Absent, Present}
-use Rattle.table.specs.declared.MaybeChs.{MaybeChs}
-use Rattle.table.specs.declared.MaybeChs.TheVariants.{Absent as NoChs, Present as SomeChs}
 use Rattle.table.specs.declared.LogicalPartition.{LogicalPartition}
 use Rattle.table.specs.declared.MBR.{MBR}
 use Rattle.table.specs.Table.{logicals, with_logicals}
@@ -22,9 +19,9 @@ at_start X l =
     record {
       partition = l.partition;
       absolute_ebr_lba = record { 0 = X };
-      ebr_sectors = Absent;
+      ebr_sectors = None;
       ebr_first_chs = l.ebr_first_chs;
-      ebr_last_chs = NoChs;
+      ebr_last_chs = None;
       kept = l.kept;
     }
 
@@ -43,15 +40,15 @@ unfoldable pub as_written : Geometry → ℕ → List LogicalPartition → List 
 as_written g X ls = map (by_geometry g) (first_at_start X ls)
 
 -- rule W11: link sectors and last link CHS are there
-abbrev pub link_there : MaybeSectors → MaybeChs → Bool
-link_there Absent c = false
-link_there (Present n) NoChs = false
-link_there (Present n) (SomeChs c) = true
+abbrev pub link_there : Option ℕ → Option CHS → Bool
+link_there None c = false
+link_there (Some n) None = false
+link_there (Some n) (Some c) = true
 
 -- rule W11: what follows, if anything does, has its link fields
 abbrev pub next_linked : Option LogicalPartition → Bool
-next_linked none = true
-next_linked (some m) = link_there m.ebr_sectors m.ebr_last_chs
+next_linked None = true
+next_linked (Some m) = link_there m.ebr_sectors m.ebr_last_chs
 
 -- rules W6 and W9 to W11: flag 4, EBR at or past the end of d sectors 2, the next lacks its link fields 18
 abbrev pub row_checks : ℕ → LogicalPartition → Bool → List Check
@@ -60,7 +57,7 @@ row_checks d l follows = (4 ! flag_ok l.partition) ∷ (2 ! ltb (at l) d) ∷ (1
 -- one logical partition after the other
 unfoldable pub all_rows : ℕ → List LogicalPartition → List Check
 all_rows d [] = []
-all_rows d (l ∷ ls) = row_checks d l (next_linked (next ls none)) ++ all_rows d ls
+all_rows d (l ∷ ls) = row_checks d l (next_linked (next ls None)) ++ all_rows d ls
 
 -- the table with other logical partitions, as many, in front of its unused slots
 abbrev pub relisted : MBR → List LogicalPartition → MBR

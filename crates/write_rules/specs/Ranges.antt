@@ -1,12 +1,11 @@
 -- Tables whose arrays, flags, types and heads fit their types, as those of every table do that a program holds. Assumes nothing.
-use Rattle.std.specs.Prelude.{◌≡◌, ◌<◌, length}
+use Rattle.record_chs.specs.declared.CHS.{CHS}
+use Rattle.std.specs.Prelude.{◌≡◌, ◌<◌, length, Option, Some, None}
 use Rattle.base.specs.Bytes.{Bytes}
 use Rattle.base.specs.All.{All}
 use Rattle.record_entry.specs.declared.MBRPartitionEntry.{MBRPartitionEntry}
 use Rattle.record_ebr.specs.Ebr.{KeptOk}
 use Rattle.record_mbr.specs.declared.MBRHeader.{MBRHeader}
-use Rattle.table.specs.declared.MaybeChs.{MaybeChs}
-use Rattle.table.specs.declared.MaybeChs.TheVariants.{Absent as NoChs, Present as SomeChs}
 use Rattle.table.specs.declared.LogicalPartition.{LogicalPartition}
 use Rattle.table.specs.declared.MBR.{MBR}
 use Rattle.table.specs.Table.{logicals}
@@ -31,9 +30,9 @@ pub record HeaderIn (h : MBRHeader) : Type 0 where
   pub three : InByte h.partition_3
   pub four : InByte h.partition_4
 
-abbrev pub ChsIn : MaybeChs → Type 0
-ChsIn NoChs = Unit {0}
-ChsIn (SomeChs c) = c.head < 256
+abbrev pub ChsIn : Option CHS → Type 0
+ChsIn None = Unit {0}
+ChsIn (Some c) = c.head < 256
 
 -- of a logical partition
 pub record LogicalIn (l : LogicalPartition) : Type 0 where

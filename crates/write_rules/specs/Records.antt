@@ -1,6 +1,6 @@
 -- The EBRs of a table as stores, and an extract with stores laid over. Assumes nothing.
 use Rattle.std.specs.Prelude.{ℕ, List, [], ◌∷◌}
-use Rattle.std.proofs.Math.Option.{Option, none}
+use Rattle.std.specs.Prelude.{Option, None}
 use Rattle.base.specs.Row.{next}
 use Rattle.record_entry.specs.declared.MBRPartitionEntry.{MBRPartitionEntry}
 use Rattle.record_ebr.specs.Ebr.{no_mark, ebr_bytes}
@@ -18,7 +18,7 @@ write_plain e l n = record { lba = at l; bytes = ebr_bytes no_mark (ebr_for e l 
 -- rules W18 and W27: the EBRs of logical partitions in an extended entry, in chain order
 unfoldable pub ebr_stores : MBRPartitionEntry → List LogicalPartition → List Store
 ebr_stores e [] = []
-ebr_stores e (l ∷ ls) = write_plain e l (next ls none) ∷ ebr_stores e ls
+ebr_stores e (l ∷ ls) = write_plain e l (next ls None) ∷ ebr_stores e ls
 
 -- rule W18: records laid over others, one after the other
 unfoldable pub laid_all : List Store → List Store → List Store

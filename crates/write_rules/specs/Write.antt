@@ -1,6 +1,6 @@
 -- Writing a table over an extract: record 0 and each EBR laid over in chain order, and the refusals. Assumes nothing.
 use Rattle.std.specs.Prelude.{ℕ, List, [], ◌∷◌, ◌++◌, ltb, leb, length}
-use Rattle.std.proofs.Math.Option.{Option, none, some}
+use Rattle.std.specs.Prelude.{Option, None, Some}
 use Rattle.base.specs.Checks.{Check, ◌!◌}
 use Rattle.record_entry.specs.declared.MBRPartitionEntry.{MBRPartitionEntry}
 use Rattle.record_mbr.specs.declared.MBRHeader.{MBRHeader}
@@ -21,8 +21,8 @@ header_store h = record { lba = 0; bytes = mbr_bytes h }
 
 -- rule W14: without an extended entry none is written
 abbrev pub chain_stores : Geometry → Option MBRPartitionEntry → List LogicalPartition → List Store
-chain_stores g none ls = []
-chain_stores g (some e) ls = ebr_stores e (as_written g e.starting_lba ls)
+chain_stores g None ls = []
+chain_stores g (Some e) ls = ebr_stores e (as_written g e.starting_lba ls)
 
 -- what is written of a table
 unfoldable pub table_stores : MBR → List Store
@@ -34,8 +34,8 @@ written_room x ss room = (22 ! leb (length (laid_all ss (records x))) most_recor
 
 -- rules W6 to W14: geometry, and per logical 4, 2, 18; nothing without an extended entry
 abbrev pub chain_checks : Geometry → Option MBRPartitionEntry → ℕ → List LogicalPartition → List Check
-chain_checks g none d ls = []
-chain_checks g (some e) d ls = logicals_checks g e.starting_lba d ls
+chain_checks g None d ls = []
+chain_checks g (Some e) d ls = logicals_checks g e.starting_lba d ls
 
 -- rule W5: D 0
 abbrev pub disk_checks : List ℕ → List Check
@@ -58,13 +58,13 @@ write_checks t x room = count_check t ∷ (extract_checks x ++ header_refusals t
 
 -- rules W14 and W34: the table as writing leaves it, without an extended entry as it was
 abbrev pub left_by : Option MBRPartitionEntry → MBR → MBR
-left_by none t = t
-left_by (some e) t = relisted t (as_written (geometry_of t) e.starting_lba (logicals t))
+left_by None t = t
+left_by (Some e) t = relisted t (as_written (geometry_of t) e.starting_lba (logicals t))
 
 -- the refusals of the addresses alone
 abbrev pub chain_geometry : Option MBRPartitionEntry → MBR → List Check
-chain_geometry none t = []
-chain_geometry (some e) t = slots_geometry t e.starting_lba
+chain_geometry None t = []
+chain_geometry (Some e) t = slots_geometry t e.starting_lba
 
 -- rule W43: header only, extract, header, D 0, room
 unfoldable pub header_only_checks : MBRHeader → List ℕ → ℕ → List Check

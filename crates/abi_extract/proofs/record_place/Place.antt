@@ -2,7 +2,7 @@
 use mathlib.Core.Path.{◌≡◌, refl, sym, ap, ◌∙◌}
 use mathlib.Core.Bool.{Bool, true, false}
 use mathlib.Core.List.{List, [], ◌∷◌}
-use mathlib.Core.Option.{Option, none, some}
+use Rattle.std.specs.Prelude.{Option, None, Some}
 use Prim.Native.Nat.{ℕ, zero, suc, ◌+◌, ◌*◌, ◌≤◌, ◌<◌}
 use native.Mathlib.Omega.{arith}
 use native.Mathlib.Decide.{dec_lt}
@@ -21,7 +21,7 @@ first : (o : ℕ) → o + 0 * 512 ≡ o
 first o = omega arith
 
 -- none of k has the LBA
-place_none : (x : List ℕ) (at a i k : ℕ) → ((j : ℕ) → i ≤ j → j < i + k → a ≡ lba_at x j → ⊥) → record_place at (lbas_from x i k) a ≡ none
+place_none : (x : List ℕ) (at a i k : ℕ) → ((j : ℕ) → i ≤ j → j < i + k → a ≡ lba_at x j → ⊥) → record_place at (lbas_from x i k) a ≡ None
 unfolding record_place lbas_from
 place_none x at a i zero h = refl
 place_none x at a i (suc k) h =
@@ -29,7 +29,7 @@ place_none x at a i (suc k) h =
 
 -- number m has it, and no earlier one
 place-some : (x : List ℕ) (o a i k m : ℕ) → i ≤ m → m < i + k → a ≡ lba_at x m → ((j : ℕ) → i ≤ j → j < m → a ≡ lba_at x j → ⊥)
-    → record_place (o + i * 512) (lbas_from x i k) a ≡ some (o + m * 512)
+    → record_place (o + i * 512) (lbas_from x i k) a ≡ Some (o + m * 512)
 unfolding record_place lbas_from
 place-some x o a i zero m p q e h = absurd (omega arith)
 place-some x o a i (suc k) m p q e h = elim (dec_lt i m) [
@@ -37,17 +37,17 @@ place-some x o a i (suc k) m p q e h = elim (dec_lt i m) [
   | no l ↦ go (omega arith)
 ]
   where
-    go : i ≡ m → pick (eqb a (lba_at x i)) (some (o + i * 512)) (record_place (o + i * 512 + 512) (lbas_from x (i + 1) k) a) ≡ some (o + m * 512)
+    go : i ≡ m → pick (eqb a (lba_at x i)) (Some (o + i * 512)) (record_place (o + i * 512 + 512) (lbas_from x (i + 1) k) a) ≡ Some (o + m * 512)
     go z = rw (z, eq-eqb a (lba_at x m) e)
 
 -- what the search found
-pub place_found : (x : List ℕ) (o : ℕ) → Good x → (a m : ℕ) → m < count x → lba_at x m ≡ a → record_place o (lbas x) a ≡ some (o + m * 512)
+pub place_found : (x : List ℕ) (o : ℕ) → Good x → (a m : ℕ) → m < count x → lba_at x m ≡ a → record_place o (lbas x) a ≡ Some (o + m * 512)
 place_found x o g a m h e =
     ap (λ (z : ℕ). record_place z (lbas x) a) (sym (first o))
     ∙ place-some x o a 0 (count x) m (omega arith) (omega arith) (sym e) (λ j p q r. absurd (omega (arith, lba-less x g j m q h)))
 
 pub place-absent : (x : List ℕ) (o a p : ℕ) → ((j : ℕ) → j < p → lba_at x j < a) → ((j : ℕ) → p ≤ j → j < count x → a < lba_at x j)
-    → record_place o (lbas x) a ≡ none
+    → record_place o (lbas x) a ≡ None
 place-absent x o a p below above = place_none x o a 0 (count x) go
   where
     go : (j : ℕ) → 0 ≤ j → j < 0 + count x → a ≡ lba_at x j → ⊥
@@ -60,17 +60,17 @@ there-from x a i zero = refl
 there-from x a i (suc k) = go (eqb a (lba_at x i)) (there-from x a (i + 1) k)
   where
     go : (b : Bool) → record_there x (record_place (24 + count x * 4 + (i + 1) * 512) (lbas_from x (i + 1) k) a) ≡ record_in [] (records_from x (i + 1) k) a
-        → record_there x (pick b (some (24 + count x * 4 + i * 512)) (record_place (24 + count x * 4 + i * 512 + 512) (lbas_from x (i + 1) k) a))
+        → record_there x (pick b (Some (24 + count x * 4 + i * 512)) (record_place (24 + count x * 4 + i * 512 + 512) (lbas_from x (i + 1) k) a))
         ≡ pick b (record_at x i) (record_in [] (records_from x (i + 1) k) a)
     go true h = refl
     go false h = ap (λ (z : ℕ). record_there x (record_place z (lbas_from x (i + 1) k) a)) (next (24 + count x * 4) i) ∙ h
 
-under : (x : List ℕ) (cs : List Check) (o : Option ℕ) → record_there x (checked cs (λ k. none) o) ≡ checked cs (λ k. []) (record_there x o)
+under : (x : List ℕ) (cs : List Check) (o : Option ℕ) → record_there x (checked cs (λ k. None) o) ≡ checked cs (λ k. []) (record_there x o)
 under x [] o = refl
 under x (c ∷ cs) o = go c.holds (under x cs o)
   where
-    go : (b : Bool) → record_there x (checked cs (λ k. none) o) ≡ checked cs (λ k. []) (record_there x o)
-        → record_there x (pick b (checked cs (λ k. none) o) none) ≡ pick b (checked cs (λ k. []) (record_there x o)) []
+    go : (b : Bool) → record_there x (checked cs (λ k. None) o) ≡ checked cs (λ k. []) (record_there x o)
+        → record_there x (pick b (checked cs (λ k. None) o) None) ≡ pick b (checked cs (λ k. []) (record_there x o)) []
     go true h = h
     go false h = refl
 

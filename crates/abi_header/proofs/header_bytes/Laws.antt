@@ -13,7 +13,7 @@ use Rattle.base.specs.Checks.{◌!◌, answer}
 use Rattle.base.proofs.Put.{put_whole}
 use Rattle.record_mbr.specs.declared.MBRHeader.{MBRHeader}
 use Rattle.block.specs.Block.{header_part, header_length, block_length}
-use Rattle.abi_word.specs.Packed.{status}
+use Rattle.std.specs.Prelude.{Option, None, Some}
 use Rattle.abi_header.specs.HeaderBytesHeader.{header_for, header_after}
 
 -- what was laid over a list is that part of it
@@ -30,14 +30,14 @@ header-put z block out new h l n p q =
     q ∙ ap (put out 0) e ∙ put_whole out (header_part h) (n ∙ sym p.1)
 
 -- the answer, and the lent bytes afterwards
-abbrev pub Read : Said MBRHeader → List ℕ → ℕ → List ℕ → Type 0
-Read v out r new = (r ≡ status (failure v)) × (new ≡ header_after out v)
+abbrev pub Read : Said MBRHeader → List ℕ → Option ℕ → List ℕ → Type 0
+Read v out r new = (r ≡ failure v) × (new ≡ header_after out v)
 
-pub read_by : (v z : Said MBRHeader) (out : List ℕ) (r : ℕ) (new : List ℕ) → v ≡ z → Read z out r new → Read v out r new
+pub read_by : (v z : Said MBRHeader) (out : List ℕ) (r : Option ℕ) (new : List ℕ) → v ≡ z → Read z out r new → Read v out r new
 read_by v z out r new e w = subst (λ (y : Said MBRHeader). Read y out r new) (sym e) w
 
-pub short : (h : MBRHeader) (out : List ℕ) → (length out ≡ header_length → ⊥) → Read (header_for (gives h) (length out)) out 101 out
-short h out n = read_by _ (refuses 101) out 101 out (ap (λ (b : Bool). answer ((101 ! b) ∷ []) h) (ne_eqb _ _ n)) (refl, refl)
+pub short : (h : MBRHeader) (out : List ℕ) → (length out ≡ header_length → ⊥) → Read (header_for (gives h) (length out)) out (Some 101) out
+short h out n = read_by _ (refuses 101) out (Some 101) out (ap (λ (b : Bool). answer ((101 ! b) ∷ []) h) (ne_eqb _ _ n)) (refl, refl)
 
-pub fitting : (h : MBRHeader) (out new : List ℕ) → length out ≡ header_length → new ≡ header_part h → Read (header_for (gives h) (length out)) out 0 new
-fitting h out new n e = read_by _ (gives h) out 0 new (ap (λ (b : Bool). answer ((101 ! b) ∷ []) h) (eq-eqb _ _ n)) (refl, e)
+pub fitting : (h : MBRHeader) (out new : List ℕ) → length out ≡ header_length → new ≡ header_part h → Read (header_for (gives h) (length out)) out None new
+fitting h out new n e = read_by _ (gives h) out None new (ap (λ (b : Bool). answer ((101 ! b) ∷ []) h) (eq-eqb _ _ n)) (refl, e)

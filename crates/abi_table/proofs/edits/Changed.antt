@@ -1,7 +1,7 @@
 -- The table in a block after removal by a sector, where it lies. Assumes nothing.
 use mathlib.Core.Path.{◌≡◌, refl}
 use mathlib.Core.List.{List}
-use mathlib.Core.Option.{Option, none, some}
+use Rattle.std.specs.Prelude.{Option, None, Some}
 use Prim.Native.Nat.{ℕ, ◌+◌, ◌<◌}
 use native.Mathlib.Omega.{arith}
 use Rattle.base.specs.Said.{Said, gives, refuses, and_then, value_or}
@@ -25,7 +25,7 @@ use Rattle.block_remove.specs.AtSectorRemoved.{found_on, removed_at_on}
 use Rattle.block_remove.proofs.at_sector.Changed.{found_below}
 
 -- the block without partition number n
-module _ (b : List ℕ) (n : ℕ) (h : first-fail (block_checks b) ≡ none) (k : n < 5 + (table_in b).count) where
+module _ (b : List ℕ) (n : ℕ) (h : first-fail (block_checks b) ≡ None) (k : n < 5 + (table_in b).count) where
   number-table : block_says (without_number b (table_in b).count n) ≡ gives (without_kind (table_in b) (kind_of n))
   number-table = go (kind_of n) refl
     where
@@ -47,11 +47,11 @@ module _ (b : List ℕ) (s : ℕ) where
   abbrev t : MBR
   t = table_in b
 
-  pub removed-at-table : first-fail (block_checks b) ≡ none → block_says (value_or b (removed_at_on b s t)) ≡ gives (value_or t (remove_at_says t s))
+  pub removed-at-table : first-fail (block_checks b) ≡ None → block_says (value_or b (removed_at_on b s t)) ≡ gives (value_or t (remove_at_says t s))
   unfolding remove_at_says
   removed-at-table h = go (find_says t s) refl
     where
       go : (f : Said (Option ℕ)) → find_says t s ≡ f → block_says (value_or b (and_then f (found_on b t.count))) ≡ gives (value_or t (and_then f (remove_found t)))
       go (refuses k) e = block-done b t h refl
-      go (gives none) e = block-done b t h refl
-      go (gives (some n)) e = number-table b n h (found_below b s n e)
+      go (gives None) e = block-done b t h refl
+      go (gives (Some n)) e = number-table b n h (found_below b s n e)

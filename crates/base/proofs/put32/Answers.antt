@@ -1,18 +1,13 @@
-use native.Mathlib.Omega.{arith}
-use lib.ListN.{length-set}
-use borrow.Author.Rules.{rules}
 use Rattle.base.specs.Bytes.{digits}
-use Rattle.base.proofs.Put.{laid-put}
+use Rattle.base.proofs.Put.{part-put}
+use native.Mathlib.Omega.{arith}
+use Prim.Native.Nat.{◌/◌}
+use mathlib.Core.Path.{◌≡◌, ◌∙◌}
 use Rattle.base.proofs.put32.Goals as goal
 
-pub bounds-d-at-2 : goal.bounds-d-at-2
-bounds-d-at-2 c = simp length-set (omega arith)
-
-pub bounds-d-at-3 : goal.bounds-d-at-3
-bounds-d-at-3 c = simp length-set (omega arith)
-
-pub bounds-d-at-4 : goal.bounds-d-at-4
-bounds-d-at-4 c = simp length-set (omega arith)
-
 pub returns : goal.returns
-returns c = laid-put _ _ (digits 4 c.args.v) (search rules)
+returns c =
+    let v = c.args.v in
+    let e : v / 65536 ≡ v / 256 / 256 = omega arith in
+    let f : v / 16777216 ≡ v / 256 / 256 / 256 = omega arith in
+    part-put c.args.d.now (digits 4 v) _ c.args.at _ (c.copy_from_slice.ensures.after ∙ c.to_le_bytes.ensures ∙ rw (e, f)) (omega arith)

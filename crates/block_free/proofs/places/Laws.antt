@@ -1,11 +1,13 @@
 -- The free runs of a table, for places and sizes. Assumes nothing.
 use mathlib.Core.Path.{◌≡◌}
-use Prim.Native.Nat.{ℕ}
+use mathlib.Core.List.{List}
+use Prim.Native.Nat.{ℕ, ◌<◌}
+use Rattle.base.specs.Said.{gives}
 use Rattle.table.specs.declared.MBR.{MBR}
-use Rattle.table_free.specs.declared.FreeAnswer.{FreeAnswer}
-use Rattle.table_free.specs.Free.{free, free_said, Usable, Told}
-use Rattle.table_free.proofs.Laws.{said-told, free-usable}
+use Rattle.table_free.specs.declared.Run.{Run}
+use Rattle.table_free.specs.Free.{free, Ended}
+use Rattle.table_free.proofs.Laws.{usable-runs}
 
 -- the free runs of a table are usable at its alignment
-pub usable-here : (t : MBR) (f : FreeAnswer) (n : ℕ) → n ≡ t.align → Told f (free t) → Usable n (free_said f)
-usable-here t f n a h = rw (a, said-told f (free t) h) (free-usable t)
+pub usable-here : (t : MBR) (rs : List Run) (n : ℕ) → n ≡ t.align → gives rs ≡ free t → (0 < n) × Ended rs
+usable-here t rs n a h = rw a (usable-runs t rs h)

@@ -2,7 +2,7 @@
 use mathlib.Core.Path.{◌≡◌, refl, sym, ap, ◌∙◌}
 use mathlib.Core.List.{List, [], ◌∷◌}
 use mathlib.Core.Bool.{true, false}
-use mathlib.Core.Option.{none, some}
+use Rattle.std.specs.Prelude.{None, Some}
 use Prim.Native.Nat.{ℕ, zero, suc, ◌+◌, ◌≤◌, ◌<◌}
 use native.Mathlib.Omega.{arith}
 use native.Mathlib.Numerals.{add-one}
@@ -21,14 +21,14 @@ use Rattle.table_lookup.specs.Hits.{holds_says, first_at, numbered}
 -- a search that has come to entry number i, and goes from n on
 module _ (s n i : ℕ) (es : List MBRPartitionEntry) where
   one_more : i < length es
-      → first_at s (n + i) (drop i es) ≡ and_then (holds_says s (get_or es i no_entry)) (λ b. pick b (gives (some (numbered (n + i) (get_or es i no_entry)))) (first_at s (n + (i + 1)) (drop (i + 1) es)))
+      → first_at s (n + i) (drop i es) ≡ and_then (holds_says s (get_or es i no_entry)) (λ b. pick b (gives (Some (numbered (n + i) (get_or es i no_entry)))) (first_at s (n + (i + 1)) (drop (i + 1) es)))
   unfolding first_at
   one_more h =
       let z : n + (i + 1) ≡ suc (n + i) = omega arith in
       rw (drop-cons es i no_entry h, z, add-one i)
 
   module _ (e : MBRPartitionEntry) (w : (i < length es) × (e ≡ get_or es i no_entry)) where
-    pub hit : holds_says s e ≡ gives true → first_at s (n + i) (drop i es) ≡ gives (some (numbered (n + i) e))
+    pub hit : holds_says s e ≡ gives true → first_at s (n + i) (drop i es) ≡ gives (Some (numbered (n + i) e))
     hit t = one_more w.0 ∙ rw (← w.1, t)
 
     pub passed : holds_says s e ≡ gives false → first_at s (n + i) (drop i es) ≡ first_at s (n + (i + 1)) (drop (i + 1) es)
@@ -37,7 +37,7 @@ module _ (s n i : ℕ) (es : List MBRPartitionEntry) where
     pub refused : (k : ℕ) → holds_says s e ≡ refuses k → first_at s (n + i) (drop i es) ≡ refuses k
     refused k t = one_more w.0 ∙ rw (← w.1, t)
 
-  pub at-end : length es ≤ i → first_at s (n + i) (drop i es) ≡ gives none
+  pub at-end : length es ≤ i → first_at s (n + i) (drop i es) ≡ gives None
   unfolding first_at
   at-end h = rw (drop_of_length-le es h)
 

@@ -1,24 +1,25 @@
 -- Another disk for the table in a block, where it lies, and the table that is then in it. Assumes nothing.
 use mathlib.Core.Path.{◌≡◌, refl, subst, ◌∙◌}
 use mathlib.Core.List.{List}
-use Prim.Native.Nat.{ℕ, ◌+◌, ◌≤◌, ◌<◌, ◌^◌}
+use Rattle.std.specs.Prelude.{None, Some}
+use Prim.Native.Nat.{ℕ, ◌+◌, ◌<◌, ◌^◌}
 use borrow.Author.Tests.{le-leb}
 use Rattle.base.specs.Bytes.{Bytes, bytes_at, little}
-use Rattle.base.specs.Said.{Said, gives, refuses, and_then, value_or}
+use Rattle.base.specs.Said.{Said, gives, refuses, and_then, failure, value_or}
+use Rattle.base.specs.Checks.{first-fail}
 use Rattle.base.proofs.Bytes.{byte_at, number-below}
 use Rattle.base.proofs.Checks.{answer-gives}
 use Rattle.extract.specs.declared.Extract.{Extract}
 use Rattle.extract.specs.Extract.{word, extract_checks}
 use Rattle.extract.specs.Answers.{header_of, check_says}
 use Rattle.table.specs.declared.MBR.{MBR}
-use Rattle.table.specs.Table.{most}
-use Rattle.block.specs.Block.{table_in, Passed}
+use Rattle.block.specs.Block.{table_in, block_checks, Passed}
 use Rattle.block_slot.specs.Changed.{with_disk}
 use Rattle.block_slot.proofs.changes.Alike.{good-says}
 use Rattle.block_slot.proofs.changes.Changes.{disk-good, disk-table}
 use Rattle.table_new.specs.Disk.{on_disk, update_says}
-use Rattle.block.specs.Blocks.{block_says, refusal_number}
-use Rattle.block.proofs.calls.Laws.{block-done, passes}
+use Rattle.block.specs.Blocks.{block_says}
+use Rattle.block.proofs.calls.Laws.{block-done, passed, passes, fails-done}
 use Rattle.block_new.specs.Updated.{updated_on}
 
 -- another disk
@@ -30,18 +31,22 @@ module _ (b x : List ℕ) where
   abbrev u : MBR
   u = table_in b
 
-  pub disk-refused : (k : ℕ) → u.count ≤ most → check_says x ≡ refuses k → (k ≡ refusal_number (update_says u x)) × (b ≡ value_or b (updated_on b x u))
-  unfolding update_says
-  disk-refused k n e =
-      let f = le-leb _ _ n in
-      (rw (f, e), rw e)
+  abbrev says : MBR → Said MBR
+  says t = update_says t x
 
-  pub disk-done : (d : Extract) (c : List ℕ) → u.count ≤ most → check_says x ≡ gives d → c ≡ with_disk b d.sector_size d.disk_size
-      → (0 ≡ refusal_number (update_says u x)) × (c ≡ value_or b (updated_on b x u))
+  pub disk-refused : (k : ℕ) → first-fail (block_checks b) ≡ None → check_says x ≡ refuses k
+      → (Some k ≡ failure (and_then (block_says b) says)) × (b ≡ value_or b (updated_on b x u))
   unfolding update_says
-  disk-done d c n e g =
-      let f = le-leb _ _ n in
-      (rw (f, e), g ∙ rw e)
+  disk-refused k h e =
+      let f = le-leb _ _ (passed b h).few in
+      ((fails-done b b says (updated_on b x) (Some k) h (rw (f, e)) (rw e)).0, rw e)
+
+  pub disk-done : (d : Extract) (c : List ℕ) → first-fail (block_checks b) ≡ None → check_says x ≡ gives d → c ≡ with_disk b d.sector_size d.disk_size
+      → (None ≡ failure (and_then (block_says b) says)) × (c ≡ value_or b (updated_on b x u))
+  unfolding update_says
+  disk-done d c h e g =
+      let f = le-leb _ _ (passed b h).few in
+      ((fails-done b b says (λ (_ : MBR). gives b) None h (rw (f, e)) refl).0, g ∙ rw e)
 
   of-header : (d : Extract) → check_says x ≡ gives d → header_of x ≡ d
   unfolding check_says

@@ -1,4 +1,5 @@
 -- A slot that is written has no absent value that is not zero. Assumes nothing.
+use Rattle.std.specs.Prelude.{Option, Some, None}
 use mathlib.Core.Path.{◌≡◌, refl}
 use mathlib.Core.List.{List, ◌++◌}
 use Prim.Native.Nat.{ℕ, ◌+◌, ◌%◌, ◌<◌}
@@ -7,28 +8,24 @@ use lib.ListN.{replicate}
 use Rattle.base.specs.Bytes.{bytes_at, bytes_of, little}
 use Rattle.record_chs.specs.declared.CHS.{CHS}
 use Rattle.record_entry.specs.declared.MBRPartitionEntry.{MBRPartitionEntry}
-use Rattle.table.specs.declared.MaybeSectors.{MaybeSectors}
-use Rattle.table.specs.declared.MaybeSectors.TheVariants.{Absent, Present}
-use Rattle.table.specs.declared.MaybeChs.{MaybeChs}
-use Rattle.table.specs.declared.MaybeChs.TheVariants.{Absent as NoChs, Present as SomeChs}
 use Rattle.table.specs.declared.LogicalPartition.{LogicalPartition}
 use Rattle.block.specs.Block.{chs_part, entry_part, sectors_part, sectors_tag, last_part, last_tag, tag_of, kept_part, slot_part}
 use Rattle.block.specs.Clean.{SlotClean}
 
 module _ (e : MBRPartitionEntry) (a : ℕ) (f : CHS) (q : List ℕ) where
-  abbrev fields : MaybeSectors → MaybeChs → List ℕ
+  abbrev fields : Option ℕ → Option CHS → List ℕ
   fields m n = entry_part e ++ bytes_of little 4 a ++ sectors_part m ++ chs_part f ++ last_part n ++ q
 
-  sectors-zero : (m : MaybeSectors) (n : MaybeChs) → (sectors_tag m + last_tag n) % 2 ≡ 0 → bytes_at (fields m n) 22 4 ≡ replicate 4 0
-  sectors-zero Absent n z = refl
-  sectors-zero (Present v) NoChs z = absurd (omega (arith, z))
-  sectors-zero (Present v) (SomeChs c) z = absurd (omega (arith, z))
+  sectors-zero : (m : Option ℕ) (n : Option CHS) → (sectors_tag m + last_tag n) % 2 ≡ 0 → bytes_at (fields m n) 22 4 ≡ replicate 4 0
+  sectors-zero None n z = refl
+  sectors-zero (Some v) None z = absurd (omega (arith, z))
+  sectors-zero (Some v) (Some c) z = absurd (omega (arith, z))
 
-  last-zero : (m : MaybeSectors) (n : MaybeChs) → sectors_tag m + last_tag n < 2 → bytes_at (fields m n) 30 4 ≡ replicate 4 0
-  last-zero Absent NoChs z = refl
-  last-zero Absent (SomeChs c) z = absurd (omega (arith, z))
-  last-zero (Present v) NoChs z = refl
-  last-zero (Present v) (SomeChs c) z = absurd (omega (arith, z))
+  last-zero : (m : Option ℕ) (n : Option CHS) → sectors_tag m + last_tag n < 2 → bytes_at (fields m n) 30 4 ≡ replicate 4 0
+  last-zero None None z = refl
+  last-zero None (Some c) z = absurd (omega (arith, z))
+  last-zero (Some v) None z = refl
+  last-zero (Some v) (Some c) z = absurd (omega (arith, z))
 
 pub slot-clean : (l : LogicalPartition) → SlotClean (tag_of l) (slot_part l)
 unfolding slot_part

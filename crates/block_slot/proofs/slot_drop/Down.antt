@@ -1,50 +1,26 @@
--- The loop that moves bytes down, and the slots that it leaves. Assumes nothing.
-use mathlib.Core.Path.{◌≡◌, sym, ap, ◌∙◌}
-use mathlib.Core.List.{List, [], ◌∷◌, ◌++◌, append-nil}
+-- Bytes moved down, and the slots that this leaves. Assumes nothing.
+use mathlib.Core.Path.{◌≡◌, ap, ◌∙◌}
+use mathlib.Core.List.{List}
 use Prim.Native.Nat.{ℕ, ◌+◌, ◌-◌, ◌*◌, ◌≤◌, ◌<◌}
-use native.Mathlib.Nat.{add-zero}
 use native.Mathlib.Omega.{arith}
-use native.Mathlib.Numerals.{add-one}
-use lib.ListN.{length, take, drop, get_or, set, length-drop, take-append-drop}
-use lib.Seq.{take-suc, get_or-drop}
+use lib.ListN.{length, take, drop}
+use lib.Seq.{paste}
 use Rattle.base.specs.Bytes.{bytes_of, little}
 use Rattle.base.specs.Put.{put}
 use Rattle.table.specs.Table.{most}
-use Rattle.base.proofs.Put.{laid-put, put-put, length-put}
+use Rattle.base.proofs.Put.{length-put}
 use Rattle.block.specs.Block.{part, slot_length, slots_offset, tags_offset, block_length, slot_start, tag_start}
 use Rattle.block_slot.specs.Changed.{with_count, without_slot}
 use Rattle.block.proofs.Forth.{part-long}
 use Rattle.block.proofs.Over.{put-behind, part-alike}
 
-pub down-start : (d : List ℕ) (to by : ℕ) → d ≡ put d to (part d (to + by) 0)
+-- a copy within a list is a part of it put elsewhere
+pub pasted : (d e : List ℕ) (to by n : ℕ) → to + by + n ≤ length d → e ≡ paste d to (drop (to + by) d) (to + by + n - (to + by)) → e ≡ put d to (part d (to + by) n)
 unfolding put part
-down-start d to by = sym (rw (append-nil (take to d), add-zero to) (take-append-drop to d))
-
-one_more : (d : List ℕ) (o i : ℕ) → o + i < length d → part d o (i + 1) ≡ part d o i ++ (get_or d (o + i) 0 ∷ [])
-unfolding part
-one_more d o i h =
-    let k : i < length (drop o d) = omega (arith, length-drop o d) in
-    rw (add-one i) (take-suc (drop o d) i 0 k ∙ ap (λ (v : ℕ). take i (drop o d) ++ (v ∷ [])) (get_or-drop o d i 0))
-
-pub down_turn : (d₀ d : List ℕ) (to by i : ℕ) → 1 ≤ by → to + by + i < length d₀ → d ≡ put d₀ to (part d₀ (to + by) i)
-    → set d (to + i) (get_or d (to + by + i) 0) ≡ put d₀ to (part d₀ (to + by) (i + 1))
-down_turn d₀ d to by i o h e =
-    let xs : List ℕ = part d₀ (to + by) i in
-    let l : length xs ≡ i = part-long d₀ (to + by) i (omega arith) in
-    let r : to + length xs ≤ length d₀ = omega arith in
-    let n : length d ≡ length d₀ = ap length e ∙ length-put d₀ to xs r in
-    let v : ℕ = get_or d (to + by + i) 0 in
-    let f : v ≡ get_or d₀ (to + by + i) 0 =
-    ap (λ (x : List ℕ). get_or x (to + by + i) 0) e ∙ put-behind d₀ to xs r (to + by + i) 1 (omega arith) (to + by + i) (omega arith) (omega arith) in
-    laid-put d (to + i) (v ∷ []) (omega arith) ∙ ap (λ (x : List ℕ). put x (to + i) (v ∷ [])) e ∙ ap (λ (m : ℕ). put (put d₀ to xs) (to + m) (v ∷ [])) (sym l)
-    ∙ put-put d₀ to xs r (v ∷ [])
-    ∙ ap (λ (w : ℕ). put d₀ to (xs ++ (w ∷ []))) f
-    ∙ ap (put d₀ to) (sym (one_more d₀ (to + by) i h))
-
-pub down-end : (d₀ d : List ℕ) (to by i n : ℕ) → i ≤ n → n ≤ i → d ≡ put d₀ to (part d₀ (to + by) i) → d ≡ put d₀ to (part d₀ (to + by) n)
-down-end d₀ d to by i n p q e =
-    let z : i ≡ n = omega arith in
-    rw z at e
+pasted d e to by n h p =
+    let m : to + by + n - (to + by) ≡ n = omega arith in
+    let l : length (take n (drop (to + by) d)) ≡ n = part-long d (to + by) n h in
+    p ∙ rw (m, l)
 
 -- the count, then the slots behind number k, then their tags
 dropped : (d e f g : List ℕ) (n k : ℕ) → length d ≡ block_length → k < n → n ≤ most → e ≡ put d 12 (bytes_of little 4 (n - 1))

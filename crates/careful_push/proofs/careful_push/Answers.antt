@@ -1,36 +1,37 @@
-use mathlib.Core.Path.{sym, ap, ◌∙◌}
+use Rattle.base.specs.Said.{refusal_code}
+use Rattle.std.specs.Prelude.{◌≡◌, Err}
+use Rattle.read_table.specs.Read.{read_says}
+use Rattle.read_table.proofs.Says.{read-refused, read-given}
+use Rattle.read_table.proofs.Facts.{given-few}
 use lib.ListN.{length}
-use Rattle.base.specs.Said.{refusal}
 use Rattle.base.specs.Bytes.{Bytes}
 use Rattle.base.proofs.Bytes.{bytes-all}
-use Rattle.read_table.proofs.Facts.{says-few}
 use Rattle.careful.proofs.New.{Asked}
 use Rattle.careful.proofs.Demand3.{push-demand3}
 use Rattle.careful_push.proofs.Laws.{push-unread, push-read}
 use borrow.Author.Rules.{rules}
 use Rattle.careful_push.proofs.careful_push.Goals as goal
 
-pub push_on-requires : goal.push_on-requires
-push_on-requires c =
-    let f = says-few c.args.x.now in
-    rw c.read_from-r.ensures.table_value f
-
-pub returns-in-Refused : goal.returns-in-Refused
-returns-in-Refused c =
+pub returns-in_err-t : goal.returns-in_err-t
+returns-in_err-t c =
+    let r : c.from_residual.result ≡ Err c.in_err-t.field-0.0 = search rules in
     let are-bytes : Bytes c.args.x.now =
     bytes-all c.args.x.now (λ i. (c.type_inv.x i).fits) in
     let asked : Asked c.args.q =
     record { sys = search rules; heads = search rules } in
-    let h = sym c.read_from-r.ensures.answer_value ∙ ap refusal c.in-Refused.is in
+    let h = read-refused (read_says c.args.x.now) (refusal_code c.in_err-t.field-0.0) c.in_err-t.ensures in
     let p = push-unread c.args.x.now (length c.args.out.now) c.args.q c.args.out.now _ h in
-    record { result_value = p.0; out_after = p.1; push_demand3 = push-demand3 c.args.x.now are-bytes c.args.out.now _ _ c.args.q asked p.0 p.1 }
+    rw r record { result_value = p.0; out_after = p.1; push_demand3 = push-demand3 c.args.x.now are-bytes c.args.out.now _ _ c.args.q asked p.0 p.1 }
 
-pub returns-in-Done : goal.returns-in-Done
-returns-in-Done c =
+pub push_on-requires : goal.push_on-requires
+push_on-requires c = given-few c.args.x.now c.in_ok-t.t c.in_ok-t.ensures
+
+pub returns : goal.returns
+returns c =
     let are-bytes : Bytes c.args.x.now =
     bytes-all c.args.x.now (λ i. (c.type_inv.x i).fits) in
     let asked : Asked c.args.q =
     record { sys = search rules; heads = search rules } in
-    let h = sym c.read_from-r.ensures.answer_value ∙ ap refusal c.in-Done.is in
-    let p = push-read c.args.x.now (length c.args.out.now) c.args.q c.push_on.result c.args.out.now _ _ h c.read_from-r.ensures.table_value c.push_on.ensures in
+    let h = read-given (read_says c.args.x.now) c.in_ok-t.t c.in_ok-t.ensures in
+    let p = push-read c.args.x.now (length c.args.out.now) c.args.q c.push_on.result c.args.out.now _ _ h.0 h.1 c.push_on.ensures in
     record { result_value = p.0; out_after = p.1; push_demand3 = push-demand3 c.args.x.now are-bytes c.args.out.now _ _ c.args.q asked p.0 p.1 }

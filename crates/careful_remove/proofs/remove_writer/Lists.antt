@@ -1,6 +1,6 @@
 -- Logical partitions by their place, and the store of a removal by it. Assumes nothing.
 use mathlib.Core.Path.{◌≡◌, refl, ap, sym, ◌∙◌}
-use mathlib.Core.Option.{Option, none, some}
+use Rattle.std.specs.Prelude.{Option, None, Some}
 use mathlib.Core.List.{List, [], ◌∷◌}
 use Prim.Native.Nat.{ℕ, zero, suc, ◌+◌, ◌-◌, ◌≤◌, ◌<◌}
 use native.Mathlib.Omega.{arith}
@@ -25,10 +25,10 @@ drop-none [] (suc i) h = refl
 drop-none (l ∷ ls) zero h = absurd (omega arith)
 drop-none (l ∷ ls) (suc i) h = drop-none ls i (omega arith)
 
-pub place_none : (ls : List LogicalPartition) (i : ℕ) → length ls ≤ i → place_in ls i ≡ none
+pub place_none : (ls : List LogicalPartition) (i : ℕ) → length ls ≤ i → place_in ls i ≡ None
 place_none ls i h = rw (drop-none ls i h)
 
-pub place-some : (ls : List LogicalPartition) (i : ℕ) → i < length ls → place_in ls i ≡ some (get_or ls i no_logical)
+pub place-some : (ls : List LogicalPartition) (i : ℕ) → i < length ls → place_in ls i ≡ Some (get_or ls i no_logical)
 place-some ls i h = rw (drop-cons ls i no_logical h)
 
 -- the store of a removal
@@ -44,14 +44,14 @@ remove_first : (e : MBRPartitionEntry) (ls : List LogicalPartition) (i : ℕ) �
 unfolding remove_store
 remove_first e [] i z h = absurd (omega arith)
 remove_first e (y ∷ []) i z h = absurd (omega arith)
-remove_first e (y ∷ m ∷ ms) zero z h = write-linked e (moved e m) (next ms none)
+remove_first e (y ∷ m ∷ ms) zero z h = write-linked e (moved e m) (next ms None)
 remove_first e (y ∷ m ∷ ms) (suc i) z h = absurd (omega arith)
 
 skip_at : (e : MBRPartitionEntry) (l : LogicalPartition) (ls : List LogicalPartition) (i : ℕ) → i < length ls
     → skip_store e l ls i ≡ linked_store (get_or (l ∷ ls) i no_logical) (link_behind e (place_in ls (suc i)))
 unfolding skip_store
 skip_at e l [] i h = absurd (omega arith)
-skip_at e l (y ∷ ms) zero h = write-linked e l (next ms none)
+skip_at e l (y ∷ ms) zero h = write-linked e l (next ms None)
 skip_at e l (y ∷ ms) (suc i) h = skip_at e y ms i (omega arith)
 
 remove-later : (e : MBRPartitionEntry) (ls : List LogicalPartition) (i : ℕ) → (i ≡ 0 → ⊥) → i < length ls

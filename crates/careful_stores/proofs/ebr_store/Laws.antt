@@ -1,6 +1,6 @@
 -- Stores written, links, and an EBR as a store. Assumes nothing.
 use mathlib.Core.Path.{◌≡◌, refl, ap, ◌∙◌}
-use mathlib.Core.Option.{Option, none}
+use Rattle.std.specs.Prelude.{Option, None}
 use mathlib.Core.List.{List}
 use Prim.Native.Nat.{ℕ, ◌+◌, ◌≤◌}
 use native.Mathlib.Omega.{arith}
@@ -41,7 +41,7 @@ ebr-written d d₁ d₂ i l h link o w n k e f =
     store-written d d₁ d₂ i (linked_store l link) (ebr-long l.kept.mark (ebr_with l link) w n) k e (f ∙ ap (λ (x : EBRHeader). put d₁ (i + 4) (ebr_bytes l.kept.mark x)) o)
 
 -- links
-pub link-none : (e : MBRPartitionEntry) → link_behind e none ≡ no_entry
+pub link-none : (e : MBRPartitionEntry) → link_behind e None ≡ no_entry
 unfolding link_entry
 link-none e = refl
 

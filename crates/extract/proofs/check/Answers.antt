@@ -1,6 +1,8 @@
 use mathlib.Core.Path.{◌≡◌, sym, ap, ◌∙◌}
 use native.Mathlib.Omega.{arith}
-use Rattle.base.specs.Said.{refusal}
+use Rattle.std.specs.Prelude.{Err}
+use borrow.Author.Rules.{rules}
+use Rattle.base.specs.Said.{answered, refusal}
 use Rattle.base.specs.Checks.{first-fail}
 use Rattle.base.specs.Bytes.{Bytes}
 use Rattle.base.proofs.Bytes.{bytes-all}
@@ -29,12 +31,13 @@ lba_rules-requires c =
     c.word_at-list.ensures
     c.word_at-records.ensures
     c.word_at-total.ensures in
-    let h = sym header-said ∙ ap refusal c.in-Done.is in
+    let h = sym header-said ∙ ap refusal c.in_ok-header_rules.was in
     let r = header-room _ h in
     (omega arith, omega arith)
 
-pub returns-in-Refused : goal.returns-in-Refused
-returns-in-Refused c =
+pub returns-in_err-header_rules : goal.returns-in_err-header_rules
+returns-in_err-header_rules c =
+    let p : c.from_residual.result ≡ Err c.in_err-header_rules.field-0.0 = search rules in
     let are-bytes : Bytes c.args.x.now =
     bytes-all c.args.x.now (λ i. (c.type_inv.x i).fits) in
     let header-said : refusal c.header_rules.result ≡ first-fail (of_header c.args.x.now) =
@@ -51,10 +54,11 @@ returns-in-Refused c =
     c.word_at-list.ensures
     c.word_at-records.ensures
     c.word_at-total.ensures in
-    record { result_value = says-header _ _ c.if-long-lt24.false (sym header-said ∙ ap refusal c.in-Refused.is); bytes = are-bytes }
+    record { result_value = ap answered p ∙ says-header _ _ c.if-long-lt24.false (sym header-said ∙ ap refusal c.in_err-header_rules.was); bytes = are-bytes }
 
-pub returns-in-Refused-lba_rules : goal.returns-in-Refused-lba_rules
-returns-in-Refused-lba_rules c =
+pub returns-in_err-lba_rules : goal.returns-in_err-lba_rules
+returns-in_err-lba_rules c =
+    let p : c.from_residual-in_err-lba_rules.result ≡ Err c.in_err-lba_rules.field-0.0 = search rules in
     let are-bytes : Bytes c.args.x.now =
     bytes-all c.args.x.now (λ i. (c.type_inv.x i).fits) in
     let header-said : refusal c.header_rules.result ≡ first-fail (of_header c.args.x.now) =
@@ -73,11 +77,11 @@ returns-in-Refused-lba_rules c =
     c.word_at-total.ensures in
     let lbas-said : refusal c.lba_rules.result ≡ first-fail (of_lbas c.args.x.now) =
     c.lba_rules.ensures ∙ rw (c.word_at-disk.ensures, c.word_at-n.ensures) in
-    let h = sym header-said ∙ ap refusal c.in-Done.is in
-    record { result_value = says-lbas _ _ c.if-long-lt24.false h (sym lbas-said ∙ ap refusal c.in-Refused-lba_rules.is); bytes = are-bytes }
+    let h = sym header-said ∙ ap refusal c.in_ok-header_rules.was in
+    record { result_value = ap answered p ∙ says-lbas _ _ c.if-long-lt24.false h (sym lbas-said ∙ ap refusal c.in_err-lba_rules.was); bytes = are-bytes }
 
-pub returns-in-Done-lba_rules : goal.returns-in-Done-lba_rules
-returns-in-Done-lba_rules c =
+pub returns : goal.returns
+returns c =
     let are-bytes : Bytes c.args.x.now =
     bytes-all c.args.x.now (λ i. (c.type_inv.x i).fits) in
     let header-said : refusal c.header_rules.result ≡ first-fail (of_header c.args.x.now) =
@@ -96,6 +100,6 @@ returns-in-Done-lba_rules c =
     c.word_at-total.ensures in
     let lbas-said : refusal c.lba_rules.result ≡ first-fail (of_lbas c.args.x.now) =
     c.lba_rules.ensures ∙ rw (c.word_at-disk.ensures, c.word_at-n.ensures) in
-    let h = sym header-said ∙ ap refusal c.in-Done.is in
-    let l = sym lbas-said ∙ ap refusal c.in-Done-lba_rules.is in
+    let h = sym header-said ∙ ap refusal c.in_ok-header_rules.was in
+    let l = sym lbas-said ∙ ap refusal c.in_ok-lba_rules.was in
     record { result_value = rw (c.word_at-size.ensures, c.word_at-disk.ensures, c.word_at-n.ensures) (says-good _ c.if-long-lt24.false h l); bytes = are-bytes }

@@ -1,19 +1,14 @@
 use Rattle.read_align.proofs.Euclid.{common-first, common-turn, common-last}
 use borrow.Author.Rules.{rules}
-use Prim.Native.Nat.{ℕ}
-use mathlib.Core.List.{List}
-use mathlib.Core.Path.{refl, sym, ◌∙◌}
+use mathlib.Core.Path.{sym, ◌∙◌}
 use Rattle.read_align.proofs.common_divisor.Goals as goal
 
-pub loop-i-init : goal.loop-i-init
-loop-i-init c = (search rules, (refl, (search rules, common-first c.args.starts.now)))
+pub loop-s-init : goal.loop-s-init
+loop-s-init c = common-first c.args.starts.now
 
-pub loop-i-preserved : goal.loop-i-preserved
-loop-i-preserved c =
-    let s : List ℕ = c.args.starts.now in
-    (search rules, (search rules, (search rules, λ d. sym (common-turn c.loop-i.g c.gcd-g.result s c.loop-i.i d (search rules) c.gcd-g.ensures) ∙ c.loop-i.invariant.1.1.1 d)))
+pub loop-s-preserved : goal.loop-s-preserved
+loop-s-preserved c =
+    λ d. sym (common-turn c.loop-s.g c.gcd-g.result c.args.starts.now c.loop-s.s-index d (search rules) c.gcd-g.ensures) ∙ c.loop-s.invariant d
 
 pub returns : goal.returns
-returns c =
-    let s : List ℕ = c.args.starts.now in
-    λ d. sym (common-last c.loop-i.g s c.loop-i.i d (search rules)) ∙ c.loop-i.invariant.1.1.1 d
+returns c = λ d. sym (common-last c.loop-s.g c.args.starts.now c.loop-s.s-index d (search rules)) ∙ c.loop-s.invariant d

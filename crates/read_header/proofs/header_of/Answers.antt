@@ -1,30 +1,24 @@
-use Rattle.read_header.proofs.Says.{header-past, header-blank, header_refused, header-given}
-use Rattle.read_header.specs.Answers.{header_told}
+use Rattle.read_header.proofs.Says.{header-past, header-blank, header-lent}
+use Rattle.record_mbr.specs.Mbr.{mbr_of, mbr_read_checks}
+use Rattle.base.specs.Checks.{answer}
+use borrow.Author.Tests.{eqb-true, eqb-false}
 use lib.ListN.{length}
+use Prim.Native.Nat.{ℕ}
+use mathlib.Core.List.{List}
 use mathlib.Core.Path.{sym, ap, ◌∙◌}
 use Rattle.read_header.proofs.header_of.Goals as goal
 
 pub returns-then-d-eq0 : goal.returns-then-d-eq0
-returns-then-d-eq0 c =
-    c.no_header.ensures ∙ ap header_told (header-past c.args.x.now (sym c.requires.d_value ∙ c.if-d-eq0.true))
+returns-then-d-eq0 c = header-past c.args.x.now (sym c.requires.d_value ∙ c.if-d-eq0.true)
 
-pub returns-then-r-eq0 : goal.returns-then-r-eq0
-returns-then-r-eq0 c =
-    c.no_header-then-r-eq0.ensures
-    ∙ ap header_told (header-blank c.args.x.now c.requires.n_value.1 (λ z. c.if-d-eq0.false (c.requires.d_value ∙ z)) (sym (ap length c.record_of-r.ensures) ∙ c.if-r-eq0.true))
+pub returns-then-is_empty : goal.returns-then-is_empty
+returns-then-is_empty c =
+    let z = eqb-true _ _ (sym c.is_empty.ensures ∙ c.if-is_empty.true) in
+    header-blank c.args.x.now c.requires.n_value.1 (λ z. c.if-d-eq0.false (c.requires.d_value ∙ z)) (sym (ap length c.record_of-r.ensures) ∙ z)
 
-pub returns-in-Refused : goal.returns-in-Refused
-returns-in-Refused c =
-    let e = rw c.record_of-r.ensures at c.read-a.ensures.answer_value in
-    c.no_header-in-Refused.ensures
-    ∙ ap header_told
-    (header_refused c.args.x.now c.read-a.result c.in-Refused.k c.requires.n_value.1 (λ z. c.if-d-eq0.false (c.requires.d_value ∙ z)) (λ z. c.if-r-eq0.false (ap length c.record_of-r.ensures ∙ z)) e
-    c.in-Refused.is)
-
-pub returns-in-Done : goal.returns-in-Done
-returns-in-Done c =
-    let e = rw c.record_of-r.ensures at c.read-a.ensures.answer_value in
-    let m = rw c.record_of-r.ensures at c.read-a.ensures.header_value in
-    ap header_told
-    (header-given c.args.x.now c.read-a.result c.requires.n_value.1 (λ z. c.if-d-eq0.false (c.requires.d_value ∙ z)) (λ z. c.if-r-eq0.false (ap length c.record_of-r.ensures ∙ z)) e m
-    c.in-Done.is)
+pub returns : goal.returns
+returns c =
+    let z = eqb-false _ _ (sym c.is_empty.ensures ∙ c.if-is_empty.false) in
+    c.read.ensures
+    ∙ ap (λ (r : List ℕ). answer (mbr_read_checks r) (mbr_of r)) c.record_of-r.ensures
+    ∙ header-lent c.args.x.now c.requires.n_value.1 (λ z. c.if-d-eq0.false (c.requires.d_value ∙ z)) (λ e. z (ap length c.record_of-r.ensures ∙ e))

@@ -1,26 +1,35 @@
-use Rattle.base.specs.Said.{refusal}
-use Rattle.read_table.proofs.Says.{read-bad, read-good, table-answer, table-value}
-use Rattle.read_table.specs.declared.ReadAnswer.{ReadAnswer}
-use Rattle.read_table.specs.Answers.{table_told}
-use Rattle.read_table.specs.Read.{read_says}
+use Rattle.std.specs.Prelude.{◌≡◌, Err}
+use Rattle.base.specs.Said.{answered}
 use Rattle.extract.proofs.Good.{good-told}
-use Rattle.extract.specs.Answers.{header_said}
-use mathlib.Core.Path.{sym, ap, ◌∙◌}
+use Rattle.extract.specs.declared.Extract.{Extract}
+use Rattle.extract.specs.Extract.{disk_of}
+use Rattle.read_table.specs.Read.{table_read}
+use Rattle.read_table.proofs.Says.{read-bad, read-good, head-refused, head-given}
+use borrow.Author.Rules.{rules}
+use mathlib.Core.Path.{ap, ◌∙◌}
 use Rattle.read_table.proofs.read_from.Goals as goal
 
-pub read_good-requires : goal.read_good-requires
-read_good-requires c =
-    let t = good-told c.args.x.now c.in-Good.e (sym (ap header_said c.in-Good.is) ∙ c.check.ensures.result_value) c.check.ensures.bytes in
+pub returns-in_err-e : goal.returns-in_err-e
+returns-in_err-e c =
+    let r : c.from_residual.result ≡ Err c.in_err-e.field-0.0 = search rules in
+    ap answered r ∙ ap table_read (read-bad c.args.x.now _ c.in_err-e.ensures.result_value)
+
+pub header_of-requires : goal.header_of-requires
+header_of-requires c =
+    let t = good-told c.args.x.now c.in_ok-e.e c.in_ok-e.ensures.result_value c.in_ok-e.ensures.bytes in
+    record { n_value = (ap (λ (y : Extract). y.count) t.1, t.0); d_value = ap (λ (y : Extract). y.disk_size) t.1 }
+
+pub returns-in_err-header : goal.returns-in_err-header
+returns-in_err-header c =
+    let r : c.from_residual-in_err-header.result ≡ Err c.in_err-header.field-0.0 = search rules in
+    ap answered r ∙ ap table_read (head-refused (disk_of c.args.x.now) _ c.in_err-header.ensures ∙ read-good c.args.x.now c.in_ok-e.e c.in_ok-e.ensures.result_value)
+
+pub with_chain-requires : goal.with_chain-requires
+with_chain-requires c =
+    let t = good-told c.args.x.now c.in_ok-e.e c.in_ok-e.ensures.result_value c.in_ok-e.ensures.bytes in
     (t.1, t.0)
 
-pub returns-in-Refused : goal.returns-in-Refused
-returns-in-Refused c =
-    let q = sym (ap header_said c.in-Refused.is) ∙ c.check.ensures.result_value in
-    let e = c.no_table.ensures ∙ ap table_told (read-bad c.args.x.now c.in-Refused.r.number q) in
-    record { answer_value = ap (λ (y : ReadAnswer). refusal y.answer) e ∙ table-answer (read_says c.args.x.now); table_value = ap (λ (y : ReadAnswer). y.table) e ∙ table-value (read_says c.args.x.now) }
-
-pub returns-in-Good : goal.returns-in-Good
-returns-in-Good c =
-    let q = sym (ap header_said c.in-Good.is) ∙ c.check.ensures.result_value in
-    let e = c.read_good.ensures ∙ ap table_told (read-good c.args.x.now c.in-Good.e q) in
-    record { answer_value = ap (λ (y : ReadAnswer). refusal y.answer) e ∙ table-answer (read_says c.args.x.now); table_value = ap (λ (y : ReadAnswer). y.table) e ∙ table-value (read_says c.args.x.now) }
+pub returns : goal.returns
+returns c =
+    c.with_chain.ensures
+    ∙ ap table_read (head-given (disk_of c.args.x.now) c.in_ok-header.header c.in_ok-header.ensures ∙ read-good c.args.x.now c.in_ok-e.e c.in_ok-e.ensures.result_value)

@@ -1,12 +1,12 @@
 -- The numbers that a search for a sector can answer. Assumes nothing.
 use mathlib.Core.Path.{◌≡◌, refl, ◌∙◌}
 use mathlib.Core.Bool.{Bool, true, false}
-use mathlib.Core.Option.{Option, none, some}
+use Rattle.std.specs.Prelude.{Option, None, Some}
 use Prim.Native.Nat.{ℕ, ◌-◌, ◌≤◌, ◌<◌}
 use native.Mathlib.Omega.{arith}
 use lib.Dec.{leb}
-use lib.ListN.{length, length-map}
-use lib.Seq.{length-take-le}
+use Rattle.std.specs.Prelude.{min}
+use lib.ListN.{length, length-map, length-take}
 use borrow.Author.Tests.{leb-true}
 use Rattle.base.specs.Pick.{pick}
 use Rattle.base.specs.Said.{Said, gives, refuses, and_then}
@@ -20,31 +20,32 @@ use Rattle.table_lookup.specs.Find.{number_of, turned, find_says}
 use Rattle.table_lookup.proofs.hits.Search.{within}
 
 -- a logical partition's number is one of the table's
-pub found-logical : (t : MBR) (s n : ℕ) → length t.logical_partitions ≡ most → find_says t s ≡ gives (some n) → 5 ≤ n → (n - 5 < t.count) × (t.count ≤ most)
+pub found-logical : (t : MBR) (s n : ℕ) → find_says t s ≡ gives (Some n) → 5 ≤ n → (n - 5 < t.count) × (t.count ≤ most)
 unfolding find_says among_logicals
-found-logical t s n l e p = counted (leb t.count most) refl e
+found-logical t s n e p = counted (leb t.count most) refl e
   where
-    logical : t.count ≤ most → (f : Said (Option Numbered)) → among_logicals t s ≡ f → number_of f ≡ gives (some n) → n - 5 < t.count
-    logical z (gives none) q g = let w : ◌≡◌ {A = ℕ} 0 1 = cc in absurd (omega arith)
-    logical z (gives (some h)) q g =
+    logical : t.count ≤ most → (f : Said (Option Numbered)) → among_logicals t s ≡ f → number_of f ≡ gives (Some n) → n - 5 < t.count
+    logical z (gives None) q g = let w : ◌≡◌ {A = ℕ} 0 1 = cc in absurd (omega arith)
+    logical z (gives (Some h)) q g =
         let m : h.number ≡ n = cc in
         let w = within s 5 (parts (logicals t)) h q in
-        let k : length (parts (logicals t)) ≡ t.count = length-map (logicals t) _ ∙ length-take-le t.count t.logical_partitions (omega arith) in
+        let k : length (parts (logicals t)) ≡ min t.count (length t.logical_partitions) =
+        length-map (logicals t) _ ∙ length-take t.count t.logical_partitions in
         omega arith
     logical z (refuses k) q g = let w : ◌≡◌ {A = ℕ} 0 1 = cc in absurd (omega arith)
 
-    plain : t.count ≤ most → (b : Bool) (h : Numbered) → h.number < 5 → pick b (number_of (among_logicals t s)) (gives (some h.number)) ≡ gives (some n) → n - 5 < t.count
+    plain : t.count ≤ most → (b : Bool) (h : Numbered) → h.number < 5 → pick b (number_of (among_logicals t s)) (gives (Some h.number)) ≡ gives (Some n) → n - 5 < t.count
     plain z true h m g = logical z (among_logicals t s) refl g
     plain z false h m g =
         let k : h.number ≡ n = cc in
         absurd (omega arith)
 
-    first : t.count ≤ most → (f : Said (Option Numbered)) → first_at s 1 (primaries t.header) ≡ f → and_then f (turned t s) ≡ gives (some n) → n - 5 < t.count
-    first z (gives none) q g = let w : ◌≡◌ {A = ℕ} 0 1 = cc in absurd (omega arith)
-    first z (gives (some h)) q g = plain z (extended h.entry.sys) h (within s 1 (primaries t.header) h q).1 g
+    first : t.count ≤ most → (f : Said (Option Numbered)) → first_at s 1 (primaries t.header) ≡ f → and_then f (turned t s) ≡ gives (Some n) → n - 5 < t.count
+    first z (gives None) q g = let w : ◌≡◌ {A = ℕ} 0 1 = cc in absurd (omega arith)
+    first z (gives (Some h)) q g = plain z (extended h.entry.sys) h (within s 1 (primaries t.header) h q).1 g
     first z (refuses k) q g = let w : ◌≡◌ {A = ℕ} 0 1 = cc in absurd (omega arith)
 
-    counted : (b : Bool) → leb t.count most ≡ b → pick b (and_then (first_at s 1 (primaries t.header)) (turned t s)) (refuses 6) ≡ gives (some n)
+    counted : (b : Bool) → leb t.count most ≡ b → pick b (and_then (first_at s 1 (primaries t.header)) (turned t s)) (refuses 6) ≡ gives (Some n)
         → (n - 5 < t.count) × (t.count ≤ most)
     counted true q g =
         let z : t.count ≤ most = leb-true _ _ q in

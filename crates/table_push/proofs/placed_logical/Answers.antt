@@ -1,34 +1,45 @@
+use Rattle.std.specs.Prelude.{◌≡◌, ◌++◌, List, [], ◌∷◌, Err, ltb}
+use Rattle.base.specs.Said.{answered, gives, refuses}
+use Rattle.base.specs.Checks.{Check, ◌!◌}
+use Rattle.base.proofs.Checks.{answer-refuses, answer-gives, checked-some, checked-none}
+use Rattle.table.specs.Table.{most}
 use Rattle.table.specs.declared.LogicalPartition.{LogicalPartition}
-use Rattle.base.specs.Checks.{first-fail}
-use Rattle.base.specs.Said.{refusal}
-use Rattle.base.proofs.Checks.{checked-none}
-use Rattle.table_address.specs.Address.{slot_geometry, by_geometry}
-use Rattle.table_push.specs.Push.{geometry_checks, new_logical}
-use Rattle.table_push.proofs.Steps.{fails-address, fails-count, fails-none, placed-refuses, placed-gives}
+use Rattle.table_push.specs.Push.{geometry_checks, new_logical, later_than}
+use Rattle.table_push.proofs.Steps.{fails-address, fails-count, fails-none}
+use borrow.Author.Rules.{rules}
 use mathlib.Core.Path.{sym, ap, ◌∙◌}
 use Rattle.table_push.proofs.placed_logical.Goals as goal
+
+pub returns-in_err-l : goal.returns-in_err-l
+unfolding geometry_checks new_logical
+returns-in_err-l c =
+    let q = c.args.q in
+    let n = c.args.n in
+    let a : List Check = geometry_checks (later_than n) q in
+    let l : LogicalPartition = new_logical (later_than n) q in
+    let e : c.from_residual.result ≡ Err c.in_err-l.field-0.0 = search rules in
+    let w = rw c.fresh_logical.ensures at c.with_geometry.ensures in
+    let f = answer-refuses a l _ (sym w ∙ ap answered c.in_err-l.was) in
+    ap answered e ∙ sym (checked-some (a ++ (6 ! ltb n most) ∷ []) refuses (gives l) _ (fails-address q n _ f))
 
 pub returns-then-n-ge-LOGICALS : goal.returns-then-n-ge-LOGICALS
 unfolding geometry_checks new_logical
 returns-then-n-ge-LOGICALS c =
-    let o = ap (λ (l : LogicalPartition). first-fail (slot_geometry c.args.q.geometry l)) (sym c.fresh_logical-l.ensures) ∙ sym c.with_geometry-u.ensures.answer_value ∙ ap refusal c.in-Done.is in
-    let both = placed-refuses c.args.q c.args.n c.refused-then-n-ge-LOGICALS.result 6 (fails-count c.args.q c.args.n o c.if-n-ge-LOGICALS.true) c.refused-then-n-ge-LOGICALS.ensures in
-    record { answer_value = both.0; logical_value = both.1 }
+    let q = c.args.q in
+    let n = c.args.n in
+    let a : List Check = geometry_checks (later_than n) q in
+    let l : LogicalPartition = new_logical (later_than n) q in
+    let w = rw c.fresh_logical.ensures at c.with_geometry.ensures in
+    let f = answer-gives a l _ (sym w ∙ ap answered c.in_ok-l.was) in
+    sym (checked-some (a ++ (6 ! ltb n most) ∷ []) refuses (gives l) 6 (fails-count q n f.0 c.if-n-ge-LOGICALS.true))
 
-pub returns-in-Refused : goal.returns-in-Refused
+pub returns : goal.returns
 unfolding geometry_checks new_logical
-returns-in-Refused c =
-    let o = ap (λ (l : LogicalPartition). first-fail (slot_geometry c.args.q.geometry l)) (sym c.fresh_logical-l.ensures) ∙ sym c.with_geometry-u.ensures.answer_value ∙ ap refusal c.in-Refused.is in
-    let both = placed-refuses c.args.q c.args.n c.refused.result _ (fails-address c.args.q c.args.n _ o) c.refused.ensures in
-    record { answer_value = both.0; logical_value = both.1 }
-
-pub returns-else-n-ge-LOGICALS : goal.returns-else-n-ge-LOGICALS
-unfolding geometry_checks new_logical
-returns-else-n-ge-LOGICALS c =
-    let l = c.fresh_logical-l.result in
-    let d = ap refusal c.in-Done.is in
-    let f = sym c.with_geometry-u.ensures.answer_value ∙ d in
-    let o = ap (λ (l : LogicalPartition). first-fail (slot_geometry c.args.q.geometry l)) (sym c.fresh_logical-l.ensures) ∙ f in
-    let m = c.with_geometry-u.ensures.logical_value ∙ checked-none (slot_geometry c.args.q.geometry l) (λ _. l) (by_geometry c.args.q.geometry l) f ∙ ap (by_geometry c.args.q.geometry) c.fresh_logical-l.ensures in
-    let both = placed-gives c.args.q c.args.n c.with_geometry-u.result (fails-none c.args.q c.args.n o c.if-n-ge-LOGICALS.false) d m in
-    record { answer_value = both.0; logical_value = both.1 }
+returns c =
+    let q = c.args.q in
+    let n = c.args.n in
+    let a : List Check = geometry_checks (later_than n) q in
+    let l : LogicalPartition = new_logical (later_than n) q in
+    let w = rw c.fresh_logical.ensures at c.with_geometry.ensures in
+    let f = answer-gives a l _ (sym w ∙ ap answered c.in_ok-l.was) in
+    ap gives (sym f.1) ∙ sym (checked-none (a ++ (6 ! ltb n most) ∷ []) refuses (gives l) (fails-none q n f.0 c.if-n-ge-LOGICALS.false))

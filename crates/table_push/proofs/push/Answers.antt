@@ -1,11 +1,11 @@
-use Prim.Native.Nat.{◌+◌}
-use lib.ListN.{set}
-use Rattle.table.specs.Table.{with_logicals}
+use Rattle.std.specs.Prelude.{◌≡◌, ◌+◌, Err, None, Some, set}
+use Rattle.base.specs.Said.{answered}
+use Rattle.base.proofs.Checks.{answer-refuses}
 use Rattle.table.specs.declared.LogicalPartition.{LogicalPartition}
-use Rattle.record_mbr.specs.Mbr.{found}
-use Rattle.base.specs.Said.{refusal}
-use Rattle.table_push.specs.Push.{request_of, push_says, push_table, table_push_checks}
+use Rattle.table.specs.Table.{extended_in, with_logicals}
+use Rattle.table_push.specs.Push.{request_of, push_says, push_table, push_checks, table_push_checks, new_logical, later_than}
 use Rattle.table_push.proofs.Steps.{push-gives, push-eight, push-fails, push-done}
+use borrow.Author.Rules.{rules}
 use borrow.Author.Tests.{lt-leb}
 use mathlib.Core.Path.{sym, ap, ◌∙◌}
 use Rattle.table_push.proofs.push.Goals as goal
@@ -14,28 +14,34 @@ pub returns-then-n-gt-LOGICALS : goal.returns-then-n-gt-LOGICALS
 unfolding push_says push_table table_push_checks
 returns-then-n-gt-LOGICALS c =
     let f = lt-leb _ _ c.if-n-gt-LOGICALS.true in
-    record { answer_value = c.kept_table.ensures.0 ∙ rw f; table_value = c.kept_table.ensures.1 ∙ rw f }
+    record { answer_value = rw f; table_value = rw f }
 
-pub append-requires : goal.append-requires
-append-requires c =
-    (push-gives (request_of c.args.t c.args.sys c.args.starting_lba c.args.sectors) c.in-Entry.e c.args.t.count c.new_logical-u.result (c.new_logical-u.ensures.answer_value, c.new_logical-u.ensures.logical_value) (ap refusal c.in-Done.is)).2
+pub returns-in_default : goal.returns-in_default
+returns-in_default c =
+    let t = c.args.t.now in
+    let x : extended_in t ≡ None = sym c.get_extended_partition.ensures ∙ c.in_default.is in
+    let z = push-eight t c.args.sys c.args.starting_lba c.args.sectors c.if-n-gt-LOGICALS.false x in
+    record { answer_value = sym z.0; table_value = sym z.1 }
 
-pub returns-in-Nothing : goal.returns-in-Nothing
-returns-in-Nothing c =
-    let x = sym c.get_extended_partition.ensures ∙ ap found c.in-Nothing.is in
-    let z = push-eight c.args.t c.args.sys c.args.starting_lba c.args.sectors c.if-n-gt-LOGICALS.false x in
-    record { answer_value = c.kept_table-in-Nothing.ensures.0 ∙ sym z.0; table_value = c.kept_table-in-Nothing.ensures.1 ∙ sym z.1 }
+pub returns-in_err-l : goal.returns-in_err-l
+returns-in_err-l c =
+    let t = c.args.t.now in
+    let x = sym c.get_extended_partition.ensures ∙ c.in-Some.is in
+    let e : c.from_residual.result ≡ Err c.in_err-l.field-0.0 = search rules in
+    let q = request_of t c.args.sys c.args.starting_lba c.args.sectors in
+    let f = answer-refuses (push_checks q (Some c.in-Some.e) t.count) (new_logical (later_than t.count) q) _ (sym c.new_logical.ensures ∙ ap answered c.in_err-l.was) in
+    let z = push-fails t c.args.sys c.args.starting_lba c.args.sectors c.if-n-gt-LOGICALS.false _ _ x f in
+    record { answer_value = ap answered e ∙ sym z.0; table_value = sym z.1 }
 
-pub returns-in-Refused : goal.returns-in-Refused
-returns-in-Refused c =
-    let x = sym c.get_extended_partition.ensures ∙ ap found c.in-Entry.is in
-    let f = sym c.new_logical-u.ensures.answer_value ∙ ap refusal c.in-Refused.is in
-    let z = push-fails c.args.t c.args.sys c.args.starting_lba c.args.sectors c.if-n-gt-LOGICALS.false _ _ x f in
-    record { answer_value = c.kept_table-in-Refused.ensures.0 ∙ sym z.0; table_value = c.kept_table-in-Refused.ensures.1 ∙ sym z.1 }
+pub bounds-t-n : goal.bounds-t-n
+bounds-t-n c =
+    let t = c.args.t.now in
+    (push-gives (request_of t c.args.sys c.args.starting_lba c.args.sectors) c.in-Some.e t.count _ (sym c.new_logical.ensures ∙ ap answered c.in_ok-l.was)).2
 
-pub returns-in-Done : goal.returns-in-Done
-returns-in-Done c =
-    let x = sym c.get_extended_partition.ensures ∙ ap found c.in-Entry.is in
-    let m = push-gives (request_of c.args.t c.args.sys c.args.starting_lba c.args.sectors) c.in-Entry.e c.args.t.count c.new_logical-u.result (c.new_logical-u.ensures.answer_value, c.new_logical-u.ensures.logical_value) (ap refusal c.in-Done.is) in
-    let z = push-done c.args.t c.args.sys c.args.starting_lba c.args.sectors c.if-n-gt-LOGICALS.false _ x m.0 in
-    record { answer_value = c.append.ensures.0 ∙ sym z.0; table_value = c.append.ensures.1 ∙ ap (λ (m : LogicalPartition). with_logicals c.args.t (set c.args.t.logical_partitions c.args.t.count m) (c.args.t.count + 1)) m.1 ∙ sym z.1 }
+pub returns : goal.returns
+returns c =
+    let t = c.args.t.now in
+    let x = sym c.get_extended_partition.ensures ∙ c.in-Some.is in
+    let m = push-gives (request_of t c.args.sys c.args.starting_lba c.args.sectors) c.in-Some.e t.count _ (sym c.new_logical.ensures ∙ ap answered c.in_ok-l.was) in
+    let z = push-done t c.args.sys c.args.starting_lba c.args.sectors c.if-n-gt-LOGICALS.false _ x m.0 in
+    record { answer_value = sym z.0; table_value = ap (λ (l : LogicalPartition). with_logicals t (set t.logical_partitions t.count l) (t.count + 1)) m.1 ∙ sym z.1 }

@@ -1,28 +1,12 @@
--- The loop that moves the later elements down by one, and the list that it leaves. Assumes nothing.
+-- The list without one of its elements. Assumes nothing.
 use mathlib.Core.Path.{◌≡◌, ap, ◌∙◌}
 use mathlib.Core.List.{List, ◌++◌}
 use Prim.Native.Nat.{ℕ, ◌+◌, ◌-◌, ◌≤◌, ◌<◌}
-use native.Mathlib.Numerals.{add-one}
 use native.Mathlib.Omega.{arith}
-use lib.ListN.{length, take, drop, get_or, set, length-drop}
-use lib.Seq.{paste, paste-zero, paste-suc, get_or-drop, take-paste, take-take, take-add, drop_at, length-take-le}
+use lib.ListN.{length, take, drop, length-drop}
+use lib.Seq.{paste, take-paste, take-take, take-add, drop_at, length-take-le}
 
 module _ {A : Type 0} where
-  pub none : (l : List A) (i : ℕ) → l ≡ paste l i (drop (i + 1) l) 0
-  none l i = paste-zero l i (drop (i + 1) l)
-
-  pub turn : (l m : List A) (i k : ℕ) (d : A) → m ≡ paste l i (drop (i + 1) l) k → i + 1 + k < length l
-      → set m (i + k) (get_or l (i + 1 + k) d) ≡ paste l i (drop (i + 1) l) (k + 1)
-  turn l m i k d e h =
-      let p : i + k < length l = omega arith in
-      let q : k < length (drop (i + 1) l) = simp length-drop (omega arith) in
-      rw (e, ← get_or-drop (i + 1) l k d, add-one k) (paste-suc l i (drop (i + 1) l) k d p q)
-
-  pub last : (l m : List A) (i k n : ℕ) → m ≡ paste l i (drop (i + 1) l) k → k ≤ n → n ≤ k → m ≡ paste l i (drop (i + 1) l) n
-  last l m i k n e p q =
-      let z : k ≡ n = omega arith in
-      rw z at e
-
   drop-take : (m n : ℕ) (l : List A) → m ≤ length l → drop m (take (m + n) l) ≡ take n (drop m l)
   drop-take m n l h = rw take-add (drop_at (take m l) (take n (drop m l)) m (length-take-le m l h))
 

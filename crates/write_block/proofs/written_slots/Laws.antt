@@ -1,7 +1,7 @@
 -- The loop that puts the slots of a block as writing leaves them. Assumes nothing.
 use mathlib.Core.Path.{◌≡◌, sym, ap, subst, ◌∙◌}
 use mathlib.Core.List.{List, [], ◌∷◌, ◌++◌}
-use mathlib.Core.Option.{none}
+use Rattle.std.specs.Prelude.{None}
 use Prim.Native.Nat.{ℕ, zero, suc, ◌+◌, ◌*◌, ◌≤◌, ◌<◌}
 use native.Mathlib.Numerals.{add-one}
 use native.Mathlib.Omega.{arith}
@@ -128,7 +128,7 @@ module _ (d b : List ℕ) (x i : ℕ) (h : Passed d) (k : i < (table_in d).count
       (held_at b turn-held x i turn_in ∙ slot_same ∙ sym (held_at d h x i k))
 
   -- so it is not refused, and writing leaves the same of it
-  pub turn-none : first-fail (slots_geometry (table_in d) x) ≡ none → first-fail (slot_geometry (geometry_of (table_in b)) (get_or (first_at_start x (logicals (table_in b))) i no_logical)) ≡ none
+  pub turn-none : first-fail (slots_geometry (table_in d) x) ≡ None → first-fail (slot_geometry (geometry_of (table_in b)) (get_or (first_at_start x (logicals (table_in b))) i no_logical)) ≡ None
   turn-none g =
       ap (λ (q : Geometry). first-fail (slot_geometry q (get_or (first_at_start x (logicals (table_in b))) i no_logical))) geometry-same
       ∙ ap (λ (l : LogicalPartition). first-fail (slot_geometry (geometry_of (table_in d)) l)) first-same

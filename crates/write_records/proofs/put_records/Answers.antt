@@ -1,5 +1,4 @@
-use lib.ListN.{length, take, get_or}
-use lib.Seq.{length-take-le, get_or-take, take_all}
+use lib.ListN.{length, get_or}
 use Prim.Native.Nat.{ℕ, ◌+◌, ◌*◌, ◌-◌, ◌≤◌, ◌<◌}
 use mathlib.Core.Path.{◌≡◌, refl, sym, ap, subst, ◌∙◌}
 use mathlib.Core.List.{List}
@@ -9,11 +8,9 @@ use Rattle.base.specs.All.{All}
 use Rattle.extract.specs.Disk.{Store}
 use Rattle.extract_lay.specs.declared.plan.Slot.{Slot}
 use Rattle.extract.specs.Rules.{most_records}
-use Rattle.extract_lay.specs.declared.plan.Plan.{Plan}
-use Rattle.extract_lay.specs.Plan.{pieces, planned, most_slots, no_slot}
+use Rattle.extract_lay.specs.Plan.{no_slot}
 use Rattle.record_entry.specs.declared.MBRPartitionEntry.{MBRPartitionEntry}
-use Rattle.extract_lay.proofs.plan.Laws.{pieces_none, pieces_more, Wide, each_at}
-use Rattle.base.proofs.Put.{length-put}
+use Rattle.extract_lay.proofs.plan.Laws.{pieces_none, pieces_more, Wide}
 use Rattle.table.specs.declared.LogicalPartition.{LogicalPartition}
 use Rattle.block.specs.Block.{table_in, Passed}
 use Rattle.write_rules.specs.AsWritten.{as_written_in}
@@ -21,35 +18,24 @@ use Rattle.write_rules.proofs.as_written.Laws.{held-long, settled-long}
 use Rattle.write_rules.specs.Records.{ebr_stores}
 use Rattle.write_rules.specs.Sources.{bytes_from, stores_of, slots_of, Writing, CodeLong, Valid, ebr_source}
 use Rattle.write_rules.proofs.sources.Laws.{codes-held, plan-wide, valid-at, link-none, link-some, kept-source, ebr-source, kept-bytes, ebr-bytes}
-use borrow.Author.Rules.{rules}
 use Rattle.write_records.proofs.put_records.Goals as goal
 use Rattle.write_records.proofs.put_records.Goals.{then-s-lt-EBR_SOURCE, else-s-lt-EBR_SOURCE+then-j-m, else-s-lt-EBR_SOURCE+else-j-m}
 
 -- what the call is given
-record Given (x : List ℕ) (n m : ℕ) (first : List ℕ) (p : Plan) (b : List ℕ) (e : MBRPartitionEntry) : Type 0 where
+record Given (x : List ℕ) (n m : ℕ) (first : List ℕ) (p : List Slot) (b : List ℕ) (e : MBRPartitionEntry) : Type 0 where
   writing : Writing x n m first
-  plan : planned p ≡ slots_of x (as_written_in (table_in b) e.starting_lba)
+  plan : p ≡ slots_of x (as_written_in (table_in b) e.starting_lba)
   passed : Passed b
   number : m ≡ (table_in b).count
-  few : p.count ≤ most_records
-  slots : length p.slots ≡ most_slots
+  few : length p ≤ most_records
 
 -- the loop's facts at the entry: the slots, the logical partitions, and slot i
-module _ {x : List ℕ} {n m : ℕ} {first : List ℕ} {p : Plan} {b : List ℕ} {e : MBRPartitionEntry} (s : Given x n m first p b e) where
-  abbrev ts : List Slot
-  ts = take p.count p.slots
-
+module _ {x : List ℕ} {n m : ℕ} {first : List ℕ} {p : List Slot} {b : List ℕ} {e : MBRPartitionEntry} (s : Given x n m first p b e) where
   abbrev ls : List LogicalPartition
   ls = as_written_in (table_in b) e.starting_lba
 
   abbrev f : Slot → List ℕ
   f q = bytes_from x (stores_of first e ls) q.source
-
-  long : length ts ≡ p.count
-  long =
-      let k = s.few in
-      let z = s.slots in
-      length-take-le p.count p.slots (omega arith)
 
   many : length ls ≡ m
   many = settled-long (table_in b) e.starting_lba (held-long b s.passed) ∙ sym s.number
@@ -57,7 +43,7 @@ module _ {x : List ℕ} {n m : ℕ} {first : List ℕ} {p : Plan} {b : List ℕ}
   codes : All CodeLong ls
   codes = codes-held b s.passed e.starting_lba
 
-  wide : Wide f 512 ts
+  wide : Wide f 512 p
   wide = subst (Wide f 512) (sym s.plan) (plan-wide x n m first ls e s.writing codes)
 
   within : (j : ℕ) → j < m → j < length ls
@@ -66,67 +52,64 @@ module _ {x : List ℕ} {n m : ℕ} {first : List ℕ} {p : Plan} {b : List ℕ}
   here : (j : ℕ) → j < m → j < (table_in b).count
   here j h = omega (arith, s.number)
 
-  module _ (i : ℕ) (h : i < p.count) where
+  module _ (i : ℕ) (h : i < length p) where
     abbrev slot : Slot
-    slot = get_or p.slots i no_slot
-
-    taken : get_or ts i no_slot ≡ slot
-    taken = get_or-take p.count p.slots i no_slot h
+    slot = get_or p i no_slot
 
     valid : Valid n m slot.source
-    valid = valid-at x n m first ls e s.writing codes many ts s.plan i (omega (arith, long)) slot taken
+    valid = valid-at x n m first ls e s.writing codes many p s.plan i h slot refl
 
     one : ebr_source ≤ slot.source → slot.source - ebr_source < m
     one k = ebr-source x n m slot.source first s.writing valid k
 
 pub loop-i-init : goal.loop-i-init
 loop-i-init c =
-    let s : Given c.args.x.now c.args.n c.args.m c.args.first.now c.args.p c.args.b.now c.args.e = record { writing = c.requires.writing.0; plan = c.requires.writing.1; passed = c.requires.passed.0; number = c.requires.passed.1; few = c.requires.count_le_most_records.0; slots = search rules } in
-    (search rules, refl, pieces_none (f s) c.args.out.now c.args.at (ts s))
+    let s : Given c.args.x.now c.args.n c.args.m c.args.first.now c.args.slots.now c.args.b.now c.args.e = record { writing = c.requires.writing.0; plan = c.requires.writing.1; passed = c.requires.passed.0; number = c.requires.passed.1; few = c.requires.count_le_most_records.0 } in
+    pieces_none (f s) c.args.out.now c.args.at c.args.slots.now
 
 pub put_kept-requires : goal.put_kept-requires
 put_kept-requires c =
-    let s : Given c.args.x.now c.args.n c.args.m c.args.first.now c.args.p c.args.b.now c.args.e = record { writing = c.requires.writing.0; plan = c.requires.writing.1; passed = c.requires.passed.0; number = c.requires.passed.1; few = c.requires.count_le_most_records.0; slots = search rules } in
-    let h : c.loop-i.i < c.args.p.count = c.loop-i-test.true in
-    (record { good = c.requires.writing.0.good; number = c.requires.writing.0.number; few = omega arith; long = c.requires.writing.0.long }, kept-source c.args.n c.args.m _ (valid s c.loop-i.i h) c.if-s-lt-EBR_SOURCE.true, omega (arith, c.loop-i.invariant.1, c.requires.count_le_most_records.2))
+    let s : Given c.args.x.now c.args.n c.args.m c.args.first.now c.args.slots.now c.args.b.now c.args.e = record { writing = c.requires.writing.0; plan = c.requires.writing.1; passed = c.requires.passed.0; number = c.requires.passed.1; few = c.requires.count_le_most_records.0 } in
+    let h : c.loop-i.i < length c.args.slots.now = c.loop-i-test.true in
+    (record { good = c.requires.writing.0.good; number = c.requires.writing.0.number; few = omega arith; long = c.requires.writing.0.long }, kept-source c.args.n c.args.m _ (valid s c.loop-i.i h) c.if-s-lt-EBR_SOURCE.true, omega (arith, c.loop-i.auto.out, c.requires.count_le_most_records.2))
 
 pub written_slot-l-requires : goal.written_slot-l-requires
 written_slot-l-requires c =
-    let s : Given c.args.x.now c.args.n c.args.m c.args.first.now c.args.p c.args.b.now c.args.e = record { writing = c.requires.writing.0; plan = c.requires.writing.1; passed = c.requires.passed.0; number = c.requires.passed.1; few = c.requires.count_le_most_records.0; slots = search rules } in
-    let h : c.loop-i.i < c.args.p.count = c.loop-i-test.true in
+    let s : Given c.args.x.now c.args.n c.args.m c.args.first.now c.args.slots.now c.args.b.now c.args.e = record { writing = c.requires.writing.0; plan = c.requires.writing.1; passed = c.requires.passed.0; number = c.requires.passed.1; few = c.requires.count_le_most_records.0 } in
+    let h : c.loop-i.i < length c.args.slots.now = c.loop-i-test.true in
     (c.requires.passed.0, here s _ (one s c.loop-i.i h c.if-s-lt-EBR_SOURCE.false), c.requires.passed.2)
 
 pub overflow_add-j : goal.overflow_add-j
 overflow_add-j c =
-    let s : Given c.args.x.now c.args.n c.args.m c.args.first.now c.args.p c.args.b.now c.args.e = record { writing = c.requires.writing.0; plan = c.requires.writing.1; passed = c.requires.passed.0; number = c.requires.passed.1; few = c.requires.count_le_most_records.0; slots = search rules } in
-    let h : c.loop-i.i < c.args.p.count = c.loop-i-test.true in
+    let s : Given c.args.x.now c.args.n c.args.m c.args.first.now c.args.slots.now c.args.b.now c.args.e = record { writing = c.requires.writing.0; plan = c.requires.writing.1; passed = c.requires.passed.0; number = c.requires.passed.1; few = c.requires.count_le_most_records.0 } in
+    let h : c.loop-i.i < length c.args.slots.now = c.loop-i-test.true in
     omega (arith, one s c.loop-i.i h c.if-s-lt-EBR_SOURCE.false, c.requires.writing.0.few)
 
 pub overflow_add-j-then-j-m : goal.overflow_add-j-then-j-m
 overflow_add-j-then-j-m c =
-    let s : Given c.args.x.now c.args.n c.args.m c.args.first.now c.args.p c.args.b.now c.args.e = record { writing = c.requires.writing.0; plan = c.requires.writing.1; passed = c.requires.passed.0; number = c.requires.passed.1; few = c.requires.count_le_most_records.0; slots = search rules } in
-    let h : c.loop-i.i < c.args.p.count = c.loop-i-test.true in
+    let s : Given c.args.x.now c.args.n c.args.m c.args.first.now c.args.slots.now c.args.b.now c.args.e = record { writing = c.requires.writing.0; plan = c.requires.writing.1; passed = c.requires.passed.0; number = c.requires.passed.1; few = c.requires.count_le_most_records.0 } in
+    let h : c.loop-i.i < length c.args.slots.now = c.loop-i-test.true in
     omega (arith, one s c.loop-i.i h c.if-s-lt-EBR_SOURCE.false, c.requires.writing.0.few, c.if-j-m.true)
 
 pub written_slot-f-requires : goal.written_slot-f-requires
 written_slot-f-requires c =
-    let s : Given c.args.x.now c.args.n c.args.m c.args.first.now c.args.p c.args.b.now c.args.e = record { writing = c.requires.writing.0; plan = c.requires.writing.1; passed = c.requires.passed.0; number = c.requires.passed.1; few = c.requires.count_le_most_records.0; slots = search rules } in
+    let s : Given c.args.x.now c.args.n c.args.m c.args.first.now c.args.slots.now c.args.b.now c.args.e = record { writing = c.requires.writing.0; plan = c.requires.writing.1; passed = c.requires.passed.0; number = c.requires.passed.1; few = c.requires.count_le_most_records.0 } in
     (c.requires.passed.0, here s _ c.if-j-m.true, c.requires.passed.2)
 
 pub put_ebr-requires : goal.put_ebr-requires
 put_ebr-requires c =
-    let h : c.loop-i.i < c.args.p.count = c.loop-i-test.true in
-    omega (arith, c.loop-i.invariant.1, c.requires.count_le_most_records.2)
+    let h : c.loop-i.i < length c.args.slots.now = c.loop-i-test.true in
+    omega (arith, c.loop-i.auto.out, c.requires.count_le_most_records.2)
 
 pub put_ebr-requires-else-j-m : goal.put_ebr-requires-else-j-m
 put_ebr-requires-else-j-m c =
-    let h : c.loop-i.i < c.args.p.count = c.loop-i-test.true in
-    omega (arith, c.loop-i.invariant.1, c.requires.count_le_most_records.2)
+    let h : c.loop-i.i < length c.args.slots.now = c.loop-i-test.true in
+    omega (arith, c.loop-i.auto.out, c.requires.count_le_most_records.2)
 
 pub loop-i-preserved : goal.loop-i-preserved
 loop-i-preserved c =
-    let s : Given c.args.x.now c.args.n c.args.m c.args.first.now c.args.p c.args.b.now c.args.e = record { writing = c.requires.writing.0; plan = c.requires.writing.1; passed = c.requires.passed.0; number = c.requires.passed.1; few = c.requires.count_le_most_records.0; slots = search rules } in
-    let h : c.loop-i.i < c.args.p.count = c.loop-i-test.true in
+    let s : Given c.args.x.now c.args.n c.args.m c.args.first.now c.args.slots.now c.args.b.now c.args.e = record { writing = c.requires.writing.0; plan = c.requires.writing.1; passed = c.requires.passed.0; number = c.requires.passed.1; few = c.requires.count_le_most_records.0 } in
+    let h : c.loop-i.i < length c.args.slots.now = c.loop-i-test.true in
     let t : c.if-s-lt-EBR_SOURCE.out ≡ put c.loop-i.out (c.args.at + c.loop-i.i * 512) (f s (slot s c.loop-i.i h)) =
     let first : Store = record { lba = 0; bytes = c.args.first.now } in
     let there = put c.loop-i.out (c.args.at + c.loop-i.i * 512) in
@@ -137,13 +120,5 @@ loop-i-preserved c =
       | else-s-lt-EBR_SOURCE+then-j-m w ↦ w.out-is ∙ w.put_ebr.ensures ∙ ap there (ebr-bytes c.args.x.now first e (ls s) q.source _ _ w.if-s-lt-EBR_SOURCE.false (within s _ (one s c.loop-i.i h w.if-s-lt-EBR_SOURCE.false)) (sym w.written_slot-l.ensures) (w.link_to.ensures ∙ link-some e (ls s) _ _ (within s _ w.if-j-m.true) (sym w.written_slot-f.ensures)))
       | else-s-lt-EBR_SOURCE+else-j-m w ↦ w.out-is ∙ w.put_ebr-else-j-m.ensures ∙ ap there (ebr-bytes c.args.x.now first e (ls s) q.source _ _ w.if-s-lt-EBR_SOURCE.false (within s _ (one s c.loop-i.i h w.if-s-lt-EBR_SOURCE.false)) (sym w.written_slot-l.ensures) (w.empty.ensures ∙ link-none e (ls s) (q.source - ebr_source + 1) (omega (arith, many s, w.if-j-m.false))))
     ] in
-    let k : c.loop-i.i < length (ts s) = omega (arith, long s) in
-    let w = each_at (λ q. length (f s q) ≡ 512) (ts s) c.loop-i.i no_slot k (wide s) in
-    let r = t ∙ ap (λ (q : Slot). put c.loop-i.out (c.args.at + c.loop-i.i * 512) (f s q)) (sym (taken s c.loop-i.i h)) in
-    (search rules, ap length r ∙ length-put c.loop-i.out (c.args.at + c.loop-i.i * 512) (f s (get_or (ts s) c.loop-i.i no_slot)) (omega (arith, c.loop-i.invariant.1, c.requires.count_le_most_records.2)) ∙ c.loop-i.invariant.1, pieces_more (f s) c.args.out.now c.loop-i.out _ c.args.at 512 c.loop-i.i (ts s) no_slot (wide s) k (omega (arith, c.requires.count_le_most_records.2)) c.loop-i.invariant.2 r)
-
-pub returns : goal.returns
-returns c =
-    let s : Given c.args.x.now c.args.n c.args.m c.args.first.now c.args.p c.args.b.now c.args.e = record { writing = c.requires.writing.0; plan = c.requires.writing.1; passed = c.requires.passed.0; number = c.requires.passed.1; few = c.requires.count_le_most_records.0; slots = search rules } in
-    let i : c.loop-i.i ≡ c.args.p.count = omega (arith, c.loop-i.invariant.0, c.loop-i-test.false) in
-    c.loop-i.invariant.2 ∙ ap (λ (q : List Slot). put c.args.out.now c.args.at (pieces (f s) q)) (ap (λ k. take k (ts s)) i ∙ take_all c.args.p.count (ts s) (omega (arith, long s)))
+    let l = c.args.slots.now in
+    pieces_more (f s) c.args.out.now c.loop-i.out _ c.args.at 512 c.loop-i.i l no_slot (wide s) h (omega (arith, c.requires.count_le_most_records.2)) c.loop-i.invariant t

@@ -2,7 +2,7 @@
 use mathlib.Core.Path.{◌≡◌, refl, sym, ap, ◌∙◌}
 use mathlib.Core.List.{List, [], ◌∷◌, ◌++◌, map}
 use mathlib.Core.Bool.{Bool, true, false}
-use mathlib.Core.Option.{Option, none, some}
+use Rattle.std.specs.Prelude.{Option, None, Some}
 use Prim.Native.Nat.{ℕ, zero, suc, ◌+◌, ◌≤◌, ◌<◌}
 use native.Mathlib.Numerals.{add-one}
 use native.Mathlib.Omega.{arith}
@@ -80,35 +80,35 @@ module _ (g : Geometry) (l : List LogicalPartition) (i : ℕ) (h : i < length l)
   unfolding all_geometry
   geometry-here = rw (drop-cons l i no_logical h, add-one i)
 
-  pub geometry-fails : (k : ℕ) → first-fail (slot_geometry g (get_or l i no_logical)) ≡ some k → first-fail (all_geometry g (drop i l)) ≡ some k
+  pub geometry-fails : (k : ℕ) → first-fail (slot_geometry g (get_or l i no_logical)) ≡ Some k → first-fail (all_geometry g (drop i l)) ≡ Some k
   geometry-fails k e = geometry-here ∙ fail-left (slot_geometry g (get_or l i no_logical)) (all_geometry g (drop (i + 1) l)) k e
 
-  pub geometry-holds : first-fail (slot_geometry g (get_or l i no_logical)) ≡ none
+  pub geometry-holds : first-fail (slot_geometry g (get_or l i no_logical)) ≡ None
       → first-fail (all_geometry g (drop i l)) ≡ first-fail (all_geometry g (drop (i + 1) l))
   geometry-holds e = geometry-here ∙ fail-right (slot_geometry g (get_or l i no_logical)) (all_geometry g (drop (i + 1) l)) e
 
 -- the refusals of one logical partition l and of those from number i on, of which m is the first
 module _ (d : ℕ) (ls : List LogicalPartition) (l m : LogicalPartition) (i : ℕ) (h : i < length ls) (p : get_or ls i no_logical ≡ m) where
-  rows-here : first-fail (all_rows d (l ∷ drop i ls)) ≡ first-fail (row_checks d l (next_linked (some m)) ++ all_rows d (m ∷ drop (i + 1) ls))
+  rows-here : first-fail (all_rows d (l ∷ drop i ls)) ≡ first-fail (row_checks d l (next_linked (Some m)) ++ all_rows d (m ∷ drop (i + 1) ls))
   unfolding all_rows
   rows-here = rw (drop-cons ls i no_logical h, p, add-one i)
 
-  module _ (b : Bool) (o : Option ℕ) (q : b ≡ next_linked (some m)) (r : o ≡ first-fail (row_checks d l b)) where
-    row_here : first-fail (row_checks d l (next_linked (some m))) ≡ o
+  module _ (b : Bool) (o : Option ℕ) (q : b ≡ next_linked (Some m)) (r : o ≡ first-fail (row_checks d l b)) where
+    row_here : first-fail (row_checks d l (next_linked (Some m))) ≡ o
     row_here = ap (λ (w : Bool). first-fail (row_checks d l w)) (sym q) ∙ sym r
 
-    pub rows-fails : (k : ℕ) → o ≡ some k → first-fail (all_rows d (l ∷ drop i ls)) ≡ some k
-    rows-fails k e = rows-here ∙ fail-left (row_checks d l (next_linked (some m))) (all_rows d (m ∷ drop (i + 1) ls)) k (row_here ∙ e)
+    pub rows-fails : (k : ℕ) → o ≡ Some k → first-fail (all_rows d (l ∷ drop i ls)) ≡ Some k
+    rows-fails k e = rows-here ∙ fail-left (row_checks d l (next_linked (Some m))) (all_rows d (m ∷ drop (i + 1) ls)) k (row_here ∙ e)
 
-    pub rows-holds : o ≡ none → first-fail (all_rows d (l ∷ drop i ls)) ≡ first-fail (all_rows d (m ∷ drop (i + 1) ls))
-    rows-holds e = rows-here ∙ fail-right (row_checks d l (next_linked (some m))) (all_rows d (m ∷ drop (i + 1) ls)) (row_here ∙ e)
+    pub rows-holds : o ≡ None → first-fail (all_rows d (l ∷ drop i ls)) ≡ first-fail (all_rows d (m ∷ drop (i + 1) ls))
+    rows-holds e = rows-here ∙ fail-right (row_checks d l (next_linked (Some m))) (all_rows d (m ∷ drop (i + 1) ls)) (row_here ∙ e)
 
-pub geometry-end : (g : Geometry) (l : List LogicalPartition) (i : ℕ) → i ≡ length l → first-fail (all_geometry g (drop i l)) ≡ none
+pub geometry-end : (g : Geometry) (l : List LogicalPartition) (i : ℕ) → i ≡ length l → first-fail (all_geometry g (drop i l)) ≡ None
 unfolding all_geometry
 geometry-end g l i e = rw (e, drop-length l)
 
 -- no row, from the first on, behind the last
-pub rows_none : (d : ℕ) (ls : List LogicalPartition) → length ls ≡ 0 → first-fail (all_rows d ls) ≡ none
+pub rows_none : (d : ℕ) (ls : List LogicalPartition) → length ls ≡ 0 → first-fail (all_rows d ls) ≡ None
 unfolding all_rows
 rows_none d [] e = refl
 rows_none d (l ∷ ls) e = absurd (omega arith)
@@ -135,15 +135,15 @@ module _ (t : MBR) (x d : ℕ) where
   abbrev ls : List LogicalPartition
   ls = logicals t
 
-  pub settle-fails : (k : ℕ) → first-fail (all_geometry (geometry_of t) (first_at_start x ls)) ≡ some k → first-fail (logicals_checks (geometry_of t) x d ls) ≡ some k
+  pub settle-fails : (k : ℕ) → first-fail (all_geometry (geometry_of t) (first_at_start x ls)) ≡ Some k → first-fail (logicals_checks (geometry_of t) x d ls) ≡ Some k
   unfolding logicals_checks
   settle-fails k e = fail-left (all_geometry (geometry_of t) (first_at_start x ls)) (all_rows d (as_written (geometry_of t) x ls)) k e
 
-  pub settle-rows : first-fail (all_geometry (geometry_of t) (first_at_start x ls)) ≡ none → first-fail (logicals_checks (geometry_of t) x d ls) ≡ first-fail (all_rows d (as_written (geometry_of t) x ls))
+  pub settle-rows : first-fail (all_geometry (geometry_of t) (first_at_start x ls)) ≡ None → first-fail (logicals_checks (geometry_of t) x d ls) ≡ first-fail (all_rows d (as_written (geometry_of t) x ls))
   unfolding logicals_checks
   settle-rows e = fail-right (all_geometry (geometry_of t) (first_at_start x ls)) (all_rows d (as_written (geometry_of t) x ls)) e
 
-  pub settle-none : first-fail (logicals_checks (geometry_of t) x d ls) ≡ none → first-fail (slots_geometry t x) ≡ none
+  pub settle-none : first-fail (logicals_checks (geometry_of t) x d ls) ≡ None → first-fail (slots_geometry t x) ≡ None
   unfolding logicals_checks
   settle-none e =
       let g = all_geometry (geometry_of t) (first_at_start x ls) in
@@ -156,7 +156,7 @@ each_holds g [] i h a = absurd (omega arith)
 each_holds g (l ∷ ls) zero h a = hold-left (slot_geometry g l) (all_geometry g ls) a
 each_holds g (l ∷ ls) (suc i) h a = each_holds g ls i (omega arith) (hold-right (slot_geometry g l) (all_geometry g ls) a)
 
-pub geometry-each : (g : Geometry) (l : List LogicalPartition) (i : ℕ) → i < length l → first-fail (all_geometry g l) ≡ none → first-fail (slot_geometry g (get_or l i no_logical)) ≡ none
+pub geometry-each : (g : Geometry) (l : List LogicalPartition) (i : ℕ) → i < length l → first-fail (all_geometry g l) ≡ None → first-fail (slot_geometry g (get_or l i no_logical)) ≡ None
 geometry-each g l i h e = all_hold (slot_geometry g (get_or l i no_logical)) (each_holds g l i h (none-fails (all_geometry g l) e))
 
 -- the logical partitions of a block
@@ -171,7 +171,7 @@ module _ (b : List ℕ) (h : Passed b) where
     pub held_at : get_or (logicals (table_in b)) i no_logical ≡ get_or (table_in b).logical_partitions i no_logical
     held_at = get_or-take (table_in b).count (table_in b).logical_partitions i no_logical k
 
-    pub held_none : first-fail (slots_geometry (table_in b) x) ≡ none → first-fail (slot_geometry (geometry_of (table_in b)) (get_or (first_at_start x (logicals (table_in b))) i no_logical)) ≡ none
+    pub held_none : first-fail (slots_geometry (table_in b) x) ≡ None → first-fail (slot_geometry (geometry_of (table_in b)) (get_or (first_at_start x (logicals (table_in b))) i no_logical)) ≡ None
     held_none = geometry-each (geometry_of (table_in b)) (first_at_start x (logicals (table_in b))) i (omega (arith, length-first x (logicals (table_in b)), held_in))
 
     -- as writing leaves it

@@ -2,7 +2,7 @@
 use mathlib.Core.Path.{◌≡◌, refl, sym, ap, subst, ◌∙◌}
 use mathlib.Core.List.{List, [], ◌∷◌, ◌++◌, map}
 use mathlib.Core.Bool.{Bool, true, false}
-use mathlib.Core.Option.{Option, none, some}
+use Rattle.std.specs.Prelude.{Option, None, Some}
 use mathlib.Core.Logic.{inl, inr}
 use Prim.Native.Nat.{ℕ, zero, suc, ◌+◌, ◌*◌, ◌-◌, ◌≤◌, ◌<◌}
 use native.Mathlib.Numerals.{add-one}
@@ -92,26 +92,26 @@ records-long x g i (suc k) h = ((record-at x g i (omega arith)).long, records-lo
 stores-long : (e : MBRPartitionEntry) (ls : List LogicalPartition) → All CodeLong ls → All Long (ebr_stores e ls)
 unfolding ebr_stores write_plain ebr_for body_of
 stores-long e [] h = tt
-stores-long e (l ∷ ls) h = (ebr-long no_mark (ebr_for e l (next ls none)) refl h.0, stores-long e ls h.1)
+stores-long e (l ∷ ls) h = (ebr-long no_mark (ebr_for e l (next ls None)) refl h.0, stores-long e ls h.1)
 
 -- the store of a number
 pub store_at : (e : MBRPartitionEntry) (ls : List LogicalPartition) (i : ℕ) → i < length ls
-    → stored_at (ebr_stores e ls) i ≡ (write_plain e (get_or ls i no_logical) (next (drop (i + 1) ls) none)).bytes
+    → stored_at (ebr_stores e ls) i ≡ (write_plain e (get_or ls i no_logical) (next (drop (i + 1) ls) None)).bytes
 unfolding stored_at ebr_stores
 store_at e [] i h = absurd (omega arith)
 store_at e (l ∷ ls) zero h = refl
 store_at e (l ∷ ls) (suc i) h =
     let z : suc i + 1 ≡ suc (i + 1) = omega arith in
-    store_at e ls i (omega arith) ∙ ap (λ k. (write_plain e (get_or ls i no_logical) (next (drop k (l ∷ ls)) none)).bytes) (sym z)
+    store_at e ls i (omega arith) ∙ ap (λ k. (write_plain e (get_or ls i no_logical) (next (drop k (l ∷ ls)) None)).bytes) (sym z)
 
 places-map : (f : ℕ → List ℕ) (e : MBRPartitionEntry) (k : ℕ) (ls : List LogicalPartition) → ((i : ℕ) → i < length ls → f (k + i) ≡ stored_at (ebr_stores e ls) i)
     → map (store_of f) (ebr_slots k ls) ≡ ebr_stores e ls
 unfolding ebr_slots ebr_stores stored_at write_plain
 places-map f e k [] h = refl
 places-map f e k (l ∷ ls) h =
-    let z : f k ≡ ebr_bytes no_mark (ebr_for e l (next ls none)) = ap f (sym (add-zero k)) ∙ h 0 (omega arith) in
+    let z : f k ≡ ebr_bytes no_mark (ebr_for e l (next ls None)) = ap f (sym (add-zero k)) ∙ h 0 (omega arith) in
     ap (λ r. record { lba = at l; bytes = r } ∷ map (store_of f) (ebr_slots (k + 1) ls)) z
-    ∙ ap (◌∷◌ (write_plain e l (next ls none))) (places-map f e (k + 1) ls (λ i p. ap f (shift k i) ∙ h (suc i) (omega arith)))
+    ∙ ap (◌∷◌ (write_plain e l (next ls None))) (places-map f e (k + 1) ls (λ i p. ap f (shift k i) ∙ h (suc i) (omega arith)))
   where
     shift : (k i : ℕ) → k + 1 + i ≡ k + suc i
     shift k i = omega arith
@@ -229,12 +229,12 @@ plan-turn ls i b a p q h e f g =
     ∙ ap (slots_over (ebr_slots (ebr_source + (i + 1)) (drop (i + 1) ls))) (sym g)
 
 -- the link to what stands at number i
-pub link-none : (e : MBRPartitionEntry) (ls : List LogicalPartition) (i : ℕ) → length ls ≤ i → no_entry ≡ link_entry e.sys (leads e.starting_lba (next (drop i ls) none))
+pub link-none : (e : MBRPartitionEntry) (ls : List LogicalPartition) (i : ℕ) → length ls ≤ i → no_entry ≡ link_entry e.sys (leads e.starting_lba (next (drop i ls) None))
 unfolding link_entry
 link-none e ls i h = rw (drop_of_length-le ls h)
 
 pub link-some : (e : MBRPartitionEntry) (ls : List LogicalPartition) (i : ℕ) (f : LogicalPartition) → i < length ls → get_or ls i no_logical ≡ f
-    → link_entry e.sys (leads e.starting_lba (some f)) ≡ link_entry e.sys (leads e.starting_lba (next (drop i ls) none))
+    → link_entry e.sys (leads e.starting_lba (Some f)) ≡ link_entry e.sys (leads e.starting_lba (next (drop i ls) None))
 link-some e ls i f h p = rw (drop-cons ls i no_logical h, p)
 
 -- a source below that of record 0 is an old record, and one above it an EBR
@@ -274,10 +274,10 @@ unfolding bytes_from stored_at
 kept-bytes x s ss k h = let z : k - mbr_source ≡ 0 = omega arith in rw z
 
 pub ebr-bytes : (x : List ℕ) (s : Store) (e : MBRPartitionEntry) (ls : List LogicalPartition) (k : ℕ) (l : LogicalPartition) (link : MBRPartitionEntry) → ebr_source ≤ k → k - ebr_source < length ls
-    → get_or ls (k - ebr_source) no_logical ≡ l → link ≡ link_entry e.sys (leads e.starting_lba (next (drop (k - ebr_source + 1) ls) none)) → ebr_bytes no_mark (ebr_with l link) ≡ bytes_from x (s ∷ ebr_stores e ls) k
+    → get_or ls (k - ebr_source) no_logical ≡ l → link ≡ link_entry e.sys (leads e.starting_lba (next (drop (k - ebr_source + 1) ls) None)) → ebr_bytes no_mark (ebr_with l link) ≡ bytes_from x (s ∷ ebr_stores e ls) k
 ebr-bytes x s e ls k l link h i p q =
     let z : k ≡ ebr_source + (k - ebr_source) = omega arith in
-    let n = next (drop (k - ebr_source + 1) ls) none in
+    let n = next (drop (k - ebr_source + 1) ls) None in
     ebr-written e l n link q
     ∙ ap (λ (a : LogicalPartition). (write_plain e a n).bytes) (sym p)
     ∙ sym (from-ebr x s (ebr_stores e ls) k (k - ebr_source) z ∙ store_at e ls (k - ebr_source) i)

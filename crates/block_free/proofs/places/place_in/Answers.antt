@@ -1,22 +1,17 @@
-use mathlib.Core.Path.{refl, sym, ap, ◌∙◌}
-use Rattle.base.specs.Said.{Said, refusal, and_then}
+use Rattle.std.proofs.lemmas.Result.{err_from_is_err_and}
+use mathlib.Core.Path.{sym}
 use Rattle.table.specs.declared.MBR.{MBR}
-use Rattle.abi_word.specs.Packed.{packed_option}
-use Rattle.block.proofs.calls.Laws.{block_refused, block-done, passed}
+use Rattle.block.proofs.calls.Laws.{passed, look-refused, look-done}
 use Rattle.block_free.specs.Place.{place_by}
 use Rattle.block_free.proofs.places.place_in.Goals as goal
 
 pub place_of-requires : goal.place_of-requires
-place_of-requires c =
-    let h = sym c.check.ensures ∙ ap refusal c.in-Done.is in
-    passed c.args.b.now h
+place_of-requires c = passed c.args.b.now (sym c.in_ok-check.ensures)
 
-pub returns-in-Refused : goal.returns-in-Refused
-returns-in-Refused c =
-    let s = block_refused c.args.b.now _ (sym c.check.ensures ∙ ap refusal c.in-Refused.is) in
-    c.upper.ensures ∙ sym (ap (λ (z : Said MBR). packed_option (and_then z (λ (t : MBR). place_by c.args.which t c.args.size))) s)
+pub returns-in_err-check : goal.returns-in_err-check
+returns-in_err-check c =
+    let p = err_from_is_err_and c.from_residual.result c.from_residual.ensures.1 in
+    rw (p.1, p.2) (look-refused c.args.b.now (λ (t : MBR). place_by c.args.which t c.args.size) _ (sym c.in_err-check.ensures))
 
-pub returns-in-Done : goal.returns-in-Done
-returns-in-Done c =
-    let s = block-done c.args.b.now _ (sym c.check.ensures ∙ ap refusal c.in-Done.is) refl in
-    c.of_place.ensures ∙ ap packed_option c.place_of.ensures ∙ sym (ap (λ (z : Said MBR). packed_option (and_then z (λ (t : MBR). place_by c.args.which t c.args.size))) s)
+pub returns : goal.returns
+returns c = look-done c.args.b.now (λ (t : MBR). place_by c.args.which t c.args.size) _ (sym c.in_ok-check.ensures) c.place_of.ensures

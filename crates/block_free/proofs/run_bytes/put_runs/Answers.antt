@@ -14,25 +14,22 @@ use borrow.Author.Rules.{rules}
 use Rattle.block_free.proofs.run_bytes.put_runs.Goals as goal
 
 pub loop-i-init : goal.loop-i-init
-loop-i-init c =
-    (search rules, refl, pieces_none run_part c.args.out.now 0 (take c.args.x.count c.args.x.at))
+loop-i-init c = (refl, pieces_none run_part c.args.out.now 0 (take c.args.x.count c.args.x.at))
 
 pub loop-i-preserved : goal.loop-i-preserved
 loop-i-preserved c =
     let long : length (take c.args.x.count c.args.x.at) ≡ c.args.x.count =
     let n : length c.args.x.at ≡ most_runs = search rules in
     length-take-le c.args.x.count c.args.x.at (omega (arith, c.requires)) in
-    let h : c.loop-i.i < c.args.x.count = search rules in
+    let h : c.loop-i.i < c.args.x.count = omega (arith, long, c.loop-i-test.true) in
     let w = runs_wide (take c.args.x.count c.args.x.at) in
-    let g = get_or-take c.args.x.count c.args.x.at c.loop-i.i (run 0 0) h in
     let e = get_or (take c.args.x.count c.args.x.at) c.loop-i.i (run 0 0) in
-    let f = c.put_run.ensures ∙ ap (λ t. put c.loop-i.out (c.loop-i.i * 8) (run_part t)) (sym g) ∙ ap (λ m. put c.loop-i.out m (run_part e)) (sym (zero-add (c.loop-i.i * 8))) in
-    (search rules, search rules, pieces_more run_part c.args.out.now c.loop-i.out _ 0 8 c.loop-i.i (take c.args.x.count c.args.x.at) (run 0 0) w (omega arith) (omega (arith, c.requires)) c.loop-i.invariant.2 f)
+    let f = c.put_run.ensures ∙ ap (λ m. put c.loop-i.out m (run_part e)) (sym (zero-add (c.loop-i.i * 8))) in
+    (search rules, pieces_more run_part c.args.out.now c.loop-i.out _ 0 8 c.loop-i.i (take c.args.x.count c.args.x.at) (run 0 0) w (omega arith) (omega (arith, c.requires)) c.loop-i.invariant.1 f)
 
 pub returns : goal.returns
 returns c =
     let long : length (take c.args.x.count c.args.x.at) ≡ c.args.x.count =
     let n : length c.args.x.at ≡ most_runs = search rules in
     length-take-le c.args.x.count c.args.x.at (omega (arith, c.requires)) in
-    let i : c.loop-i.i ≡ c.args.x.count = omega (arith, c.loop-i.invariant.0, c.loop-i-test.false) in
-    c.loop-i.invariant.2 ∙ ap (λ n. put c.args.out.now 0 (pieces run_part n)) (ap (λ n. take n (take c.args.x.count c.args.x.at)) i ∙ take_all c.args.x.count (take c.args.x.count c.args.x.at) (omega (arith, long)))
+    c.loop-i.invariant.1 ∙ ap (λ n. put c.args.out.now 0 (pieces run_part n)) (take_all c.loop-i.i (take c.args.x.count c.args.x.at) (omega (arith, long, c.loop-i-test.false)))

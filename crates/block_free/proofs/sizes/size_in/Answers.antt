@@ -1,22 +1,16 @@
-use mathlib.Core.Path.{refl, sym, ap, ◌∙◌}
-use Rattle.base.specs.Said.{Said, refusal, and_then}
-use Rattle.table.specs.declared.MBR.{MBR}
-use Rattle.abi_word.specs.Packed.{packed}
-use Rattle.block.proofs.calls.Laws.{block_refused, block-done, passed}
+use Rattle.std.proofs.lemmas.Result.{err_from_is_err_and}
+use mathlib.Core.Path.{sym}
+use Rattle.block.proofs.calls.Laws.{passed, look-refused, look-done}
 use Rattle.block_free.specs.Size.{size_for}
 use Rattle.block_free.proofs.sizes.size_in.Goals as goal
 
 pub size_of-requires : goal.size_of-requires
-size_of-requires c =
-    let h = sym c.check.ensures ∙ ap refusal c.in-Done.is in
-    passed c.args.b.now h
+size_of-requires c = passed c.args.b.now (sym c.in_ok-check.ensures)
 
-pub returns-in-Refused : goal.returns-in-Refused
-returns-in-Refused c =
-    let s = block_refused c.args.b.now _ (sym c.check.ensures ∙ ap refusal c.in-Refused.is) in
-    c.upper.ensures ∙ sym (ap (λ (z : Said MBR). packed (and_then z (size_for c.args.whose))) s)
+pub returns-in_err-check : goal.returns-in_err-check
+returns-in_err-check c =
+    let p = err_from_is_err_and c.from_residual.result c.from_residual.ensures.1 in
+    rw (p.1, p.2) (look-refused c.args.b.now (size_for c.args.whose) _ (sym c.in_err-check.ensures))
 
-pub returns-in-Done : goal.returns-in-Done
-returns-in-Done c =
-    let s = block-done c.args.b.now _ (sym c.check.ensures ∙ ap refusal c.in-Done.is) refl in
-    c.of_size.ensures ∙ ap packed c.size_of.ensures ∙ sym (ap (λ (z : Said MBR). packed (and_then z (size_for c.args.whose))) s)
+pub returns : goal.returns
+returns c = look-done c.args.b.now (size_for c.args.whose) _ (sym c.in_ok-check.ensures) c.size_of.ensures

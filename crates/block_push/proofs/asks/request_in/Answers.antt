@@ -5,8 +5,8 @@ use Rattle.block_push.proofs.asks.request_in.Goals as goal
 pub returns : goal.returns
 returns c =
     λ i. record {
-      align = (c.get32-align.ensures ∙ sym (align-in c.args.b.now)) i;
-      geometry = c.geometry-g.ensures i;
+      align = (c.get32.ensures ∙ sym (align-in c.args.b.now)) i;
+      geometry = c.geometry.ensures i;
       sys = c.args.sys;
       start = c.args.start;
       sectors = c.args.sectors;

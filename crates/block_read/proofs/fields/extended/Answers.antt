@@ -3,19 +3,16 @@ use Rattle.block.specs.Block.{table_in}
 use Rattle.record_entry.specs.declared.MBRPartitionEntry.{MBRPartitionEntry}
 use Rattle.record_entry.specs.Entry.{extended}
 use Rattle.record_mbr.specs.Mbr.{primaries}
-use mathlib.Core.Path.{refl, sym, ap, ◌∙◌}
-use mathlib.Core.Option.{some}
+use mathlib.Core.Path.{sym, ap, ◌∙◌}
+use Rattle.std.specs.Prelude.{Some}
 use borrow.Author.Rules.{rules}
 use Rattle.block_read.proofs.fields.extended.Goals as goal
-
-pub loop-i-init : goal.loop-i-init
-loop-i-init c = (search rules, refl)
 
 pub returns-then-is_extended : goal.returns-then-is_extended
 returns-then-is_extended c =
     let t = table_in c.args.b.now in
     let x = ap (λ (e : MBRPartitionEntry). extended e.sys) (sym c.primary-e.ensures) ∙ sym c.is_extended.ensures ∙ c.if-is_extended.true in
-    ap some c.primary-e.ensures ∙ sym (c.loop-i.invariant.1 ∙ is-first (primaries t.header) c.loop-i.i c.loop-i-test.true x)
+    ap Some c.primary-e.ensures ∙ sym (c.loop-i.invariant.1 ∙ is-first (primaries t.header) c.loop-i.i c.loop-i-test.true x)
 
 pub loop-i-preserved : goal.loop-i-preserved
 loop-i-preserved c =

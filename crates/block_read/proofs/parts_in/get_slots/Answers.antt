@@ -1,5 +1,5 @@
 use mathlib.Core.List.{[]}
-use Rattle.block_read.proofs.parts_in.Reading.{slots-none, slots-more, slots-all}
+use Rattle.block_read.proofs.parts_in.Reading.{slots-none, slots-more}
 use lib.ListN.{length-set}
 use native.Mathlib.Omega.{arith}
 use mathlib.Core.Path.{refl, ◌∙◌}
@@ -13,10 +13,7 @@ pub loop-i-preserved : goal.loop-i-preserved
 loop-i-preserved c = (
   search rules,
   (
-    length-set c.loop-i.ls c.loop-i.i c.slot_of-l.result ∙ c.loop-i.invariant.1.0,
-    slots-more c.args.b.now c.loop-i.ls c.slot_of-l.result c.loop-i.i (omega (arith, c.loop-i.invariant.1.0, c.loop-i-test.true)) c.loop-i.invariant.1.1 c.slot_of-l.ensures,
+    length-set c.loop-i.ls c.loop-i.i c.slot_of.result ∙ c.loop-i.invariant.1.0,
+    slots-more c.args.b.now c.loop-i.ls c.slot_of.result c.loop-i.i (omega (arith, c.loop-i.invariant.1.0, c.loop-i-test.true)) c.loop-i.invariant.1.1 c.slot_of.ensures,
   ),
 )
-
-pub returns : goal.returns
-returns c = slots-all c.args.b.now c.loop-i.ls c.loop-i.i c.loop-i.invariant.1.0 (omega (arith, c.loop-i.invariant.0, c.loop-i-test.false)) c.loop-i.invariant.1.1

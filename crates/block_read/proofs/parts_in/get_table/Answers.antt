@@ -3,4 +3,4 @@ use Rattle.block_read.proofs.parts_in.get_table.Goals as goal
 
 pub returns : goal.returns
 unfolding table_in
-returns c = cc c.header_of-header.ensures
+returns c = cc c.header_of.ensures

@@ -9,4 +9,4 @@ use Rattle.block_slot.proofs.in_place.clear_primary.Goals as goal
 pub returns : goal.returns
 unfolding without_entry
 returns c =
-    c.put_entry.ensures ∙ ap (λ (e : MBRPartitionEntry). put c.args.b.now (466 + entry_length * (c.args.i - 1)) (entry_part e)) c.empty-e.ensures
+    c.put_entry.ensures ∙ ap (λ (e : MBRPartitionEntry). put c.args.b.now (466 + entry_length * (c.args.i - 1)) (entry_part e)) c.empty.ensures

@@ -11,4 +11,4 @@ returns c =
     (search rules) in
     let mark-long : length c.args.l.kept.mark ≡ mark_length =
     (search rules) in
-    ebr-written c.args.out.now _ _ c.args.at c.args.l _ c.args.link c.ebr_with-h.ensures mark-long code-long c.requires c.put32.ensures c.write_at.ensures
+    ebr-written c.args.out.now _ _ c.args.at c.args.l _ c.args.link c.ebr_with.ensures mark-long code-long c.requires c.put32.ensures c.write_at.ensures

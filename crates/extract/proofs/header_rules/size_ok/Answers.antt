@@ -1,12 +1,10 @@
-use Rattle.extract.proofs.header_rules.Size.{size_low, size-high, size-ones}
-use mathlib.Core.Path.{sym}
+use borrow.Author.Rules.{rules}
+use Prim.Native.Nat.{◌≤◌}
+use Rattle.extract.proofs.header_rules.Size.{size-ones}
 use Rattle.extract.proofs.header_rules.size_ok.Goals as goal
 
-pub returns-then-size-lt512 : goal.returns-then-size-lt512
-returns-then-size-lt512 c = sym (size_low _ c.if-size-lt512.true)
-
-pub returns-then-size-gt4096 : goal.returns-then-size-gt4096
-returns-then-size-gt4096 c = sym (size-high _ c.if-size-gt4096.true)
-
-pub returns : goal.returns
-returns c = size-ones _ c.if-size-lt512.false c.if-size-gt4096.false
+pub returns-then-contains : goal.returns-then-contains
+returns-then-contains c =
+    let low : 512 ≤ c.args.size = search rules in
+    let high : c.args.size ≤ 4096 = search rules in
+    size-ones c.args.size low high

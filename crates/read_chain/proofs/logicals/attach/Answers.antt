@@ -1,31 +1,33 @@
-use borrow.Author.Rules.{rules}
-use mathlib.Core.Path.{◌≡◌, ◌∙◌}
+use mathlib.Core.Path.{◌≡◌, ap, ◌∙◌}
 use native.Mathlib.Omega.{arith}
 use Prim.Native.Nat.{◌<◌}
-use lib.ListN.{length}
-use Rattle.table.specs.Table.{most}
-use Rattle.chain.specs.Chain.{first_link}
-use Rattle.chain.specs.Walk.{rebuilt}
-use Rattle.chain.proofs.Slots.{rebuilt-long, rebuilt-at, sofar-none, sofar-more, sofar-slots}
+use mathlib.Core.List.{List}
+use lib.ListN.{length, get_or, set}
+use Rattle.table.specs.declared.LogicalPartition.{LogicalPartition}
+use Rattle.chain.specs.Chain.{Link, first_link}
+use Rattle.chain.specs.Walk.{lifted, rebuilt}
+use Rattle.chain.proofs.Slots.{rebuilt-long, rebuilt-at, link-on, sofar, sofar-more, sofar-slots}
 use Rattle.read_chain.proofs.logicals.attach.Goals as goal
-
-pub loop-j-init : goal.loop-j-init
-loop-j-init c =
-    (search rules, rw c.empty-none.ensures (sofar-none (rebuilt c.args.x.now (first_link c.args.extended) c.args.found.now)))
-
-pub logical_at-l-requires : goal.logical_at-l-requires
-logical_at-l-requires c =
-    record { n_value = c.requires.n_value; j_in_bounds = (omega (arith, c.requires.m_le_most.0, c.requires.m_le_most.1), λ i h. c.requires.m_le_most.2 i (omega arith)) }
 
 pub loop-j-preserved : goal.loop-j-preserved
 loop-j-preserved c =
+    let x = c.args.x.now in
+    let f = c.args.found.now in
     let k = first_link c.args.extended in
-    let t : c.loop-j.j < most = omega (arith, c.loop-j-test.true, c.requires.m_le_most.0) in
-    let b : c.loop-j.j < length c.args.found.now = omega (arith, c.requires.m_le_most.1) in
-    (search rules, rw (c.logical_at-l.ensures, rebuilt-at c.args.x.now k c.args.found.now c.loop-j.j b, c.loop-j.invariant.1) (sofar-more (rebuilt c.args.x.now k c.args.found.now) c.loop-j.j (rebuilt-long c.args.x.now k c.args.found.now ∙ c.requires.m_le_most.1) t))
+    let j = c.loop-j.j in
+    let L = rebuilt x k f in
+    let b : j < length f = omega arith in
+    let n : length L ≡ length f = rebuilt-long x k f in
+    let v = c.lift.ensures ∙ ap (λ (y : Link). lifted x y (get_or f j 0)) c.loop-j.invariant.1 ∙ rebuilt-at x k f j b in (
+      ap (λ (z : LogicalPartition). set c.loop-j.ls j z) v
+          ∙ ap (λ (z : List LogicalPartition). set z j (get_or L j _)) c.loop-j.invariant.0
+          ∙ sofar-more L j (omega arith) (omega (arith, c.requires.found_few.0)),
+      c.way_behind-way.ensures ∙ link-on x k f j,
+    )
 
 pub returns : goal.returns
 returns c =
-    let k = first_link c.args.extended in
-    let e : c.loop-j.j ≡ c.args.m = omega (arith, c.loop-j.invariant.0, c.loop-j-test.false) in
-    rw e at c.loop-j.invariant.1 ∙ sofar-slots (rebuilt c.args.x.now k c.args.found.now) c.args.m (rebuilt-long c.args.x.now k c.args.found.now ∙ c.requires.m_le_most.1) c.requires.m_le_most.0
+    let L = rebuilt c.args.x.now (first_link c.args.extended) c.args.found.now in
+    let n : length L ≡ length c.args.found.now = rebuilt-long c.args.x.now (first_link c.args.extended) c.args.found.now in
+    let e : c.loop-j.j ≡ length L = omega arith in
+    c.loop-j.invariant.0 ∙ ap (sofar L) e ∙ sofar-slots L

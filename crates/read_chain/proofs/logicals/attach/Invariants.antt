@@ -1,12 +1,11 @@
 use mathlib.Core.Path.{◌≡◌}
-use Prim.Native.Nat.{◌-◌, ◌≤◌}
 use Rattle.chain.specs.Chain.{first_link}
-use Rattle.chain.specs.Walk.{rebuilt}
+use Rattle.chain.specs.Walk.{rebuilt, link_to}
 use Rattle.chain.proofs.Slots.{sofar}
+use Rattle.read_chain.specs.Way.{link_by}
 use Rattle.read_chain.proofs.logicals.attach.Given as goal
 
 abbrev pub invariant-loop-j : goal.invariant-loop-j
-invariant-loop-j l = (l.j ≤ l.m) × (l.ls ≡ sofar (rebuilt l.x (first_link l.extended) l.found) l.j)
-
-abbrev pub decreases-loop-j : goal.decreases-loop-j
-decreases-loop-j l = l.m - l.j
+invariant-loop-j l =
+    (l.ls ≡ sofar (rebuilt l.x (first_link l.fn.extended) l.found) l.j)
+    × (link_by l.way ≡ link_to l.x (first_link l.fn.extended) l.found l.j)

@@ -7,61 +7,12 @@ use mathlib.Core.Path.{refl}
 use borrow.Author.Rules.{rules}
 use Rattle.read_listing.proofs.entry_lines.put_entry.Goals as goal
 
-pub put_number-sys-requires : goal.put_number-sys-requires
-put_number-sys-requires c =
-    let t-n = ten c.args.n (search rules) in
-    let t-e-starting-lba = ten c.args.e.starting_lba (search rules) in
-    let t-e-sectors = ten c.args.e.sectors (search rules) in
-    omega (arith, c.requires)
-
-pub put_hex-boot-requires : goal.put_hex-boot-requires
-put_hex-boot-requires c =
-    let t-n = ten c.args.n (search rules) in
-    let t-e-starting-lba = ten c.args.e.starting_lba (search rules) in
-    let t-e-sectors = ten c.args.e.sectors (search rules) in
-    omega (arith, c.requires)
-
-pub put_hex-start-requires : goal.put_hex-start-requires
-put_hex-start-requires c =
-    let t-n = ten c.args.n (search rules) in
-    let t-e-starting-lba = ten c.args.e.starting_lba (search rules) in
-    let t-e-sectors = ten c.args.e.sectors (search rules) in
-    omega (arith, c.requires)
-
-pub put_spaced-sectors-requires : goal.put_spaced-sectors-requires
-put_spaced-sectors-requires c =
-    let t-n = ten c.args.n (search rules) in
-    let t-e-starting-lba = ten c.args.e.starting_lba (search rules) in
-    let t-e-sectors = ten c.args.e.sectors (search rules) in
-    omega (arith, c.requires)
-
-pub put_spaced-end-requires : goal.put_spaced-end-requires
-put_spaced-end-requires c =
-    let t-n = ten c.args.n (search rules) in
-    let t-e-starting-lba = ten c.args.e.starting_lba (search rules) in
-    let t-e-sectors = ten c.args.e.sectors (search rules) in
-    omega (arith, c.requires)
-
-pub put8-requires : goal.put8-requires
-put8-requires c =
-    let t-n = ten c.args.n (search rules) in
-    let t-e-starting-lba = ten c.args.e.starting_lba (search rules) in
-    let t-e-sectors = ten c.args.e.sectors (search rules) in
-    omega (arith, c.requires)
-
-pub overflow_add-result : goal.overflow_add-result
-overflow_add-result c =
-    let t-n = ten c.args.n (search rules) in
-    let t-e-starting-lba = ten c.args.e.starting_lba (search rules) in
-    let t-e-sectors = ten c.args.e.sectors (search rules) in
-    omega (arith, c.requires)
-
 pub returns : goal.returns
 unfolding entry_line
 returns c =
-    let t-n = ten c.args.n (search rules) in
-    let t-e-starting-lba = ten c.args.e.starting_lba (search rules) in
-    let t-e-sectors = ten c.args.e.sectors (search rules) in
+    let n = ten c.args.n (search rules) in
+    let start = ten c.args.e.starting_lba (search rules) in
+    let sectors = ten c.args.e.sectors (search rules) in
     let x₁ = decimal c.args.n in
     let w₁ : Written c.args.d.now _ c.args.at _ x₁ = record { place = c.put_number-sys.ensures.0; bytes = c.put_number-sys.ensures.1 } in
     let y₂ = spaced (hex c.args.e.sys) in

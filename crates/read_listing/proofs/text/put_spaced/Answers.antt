@@ -6,11 +6,6 @@ use mathlib.Core.Path.{refl}
 use borrow.Author.Rules.{rules}
 use Rattle.read_listing.proofs.text.put_spaced.Goals as goal
 
-pub put_number-requires : goal.put_number-requires
-put_number-requires c =
-    let t-v = ten c.args.v (search rules) in
-    omega (arith, c.requires)
-
 pub returns : goal.returns
 returns c =
     let t-v = ten c.args.v (search rules) in

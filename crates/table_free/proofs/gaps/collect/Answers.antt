@@ -1,39 +1,47 @@
-use Rattle.base.specs.declared.Answer.TheVariants.{Done}
-use Rattle.table_free.proofs.Laws.{pair-on, pair-seven, pair_end, told_same, told-empty, listed-again, listed_more, runs-listed}
+use Rattle.std.proofs.Common.{length-append, ◌<◌, rules, arith, sym, ap, ◌∙◌, length}
+use Rattle.std.proofs.lemmas.Result.{err_from_is_err_and}
+use Rattle.std.specs.Prelude.{Option, Ok}
+use Rattle.std.specs.Slice.Iter.{chunks_exact_rest}
 use Rattle.table_free.specs.declared.Run.{Run}
-use Rattle.table_free.specs.declared.Gap.{Gap}
-use Rattle.base.specs.Said.{gives, refuses, failure, value_or}
-use Rattle.table_free.specs.Free.{runs_in, joined, runs_among, gap_said}
-use lib.ListN.{drop}
-use Prim.Native.Nat.{◌+◌}
-use mathlib.Core.List.{List, [], ◌++◌, append-nil}
-use mathlib.Core.Path.{refl, sym, ap, ◌∙◌}
-use native.Mathlib.Omega.{arith}
-use borrow.Author.Rules.{rules}
+use Rattle.table_free.specs.Free.{runs_in, gap_said, joined, runs_among}
+use Rattle.table_free.proofs.Laws.{pair-none, pair-some, pair-refused, pair_end, listed-again, listed_more, runs-listed}
 use Rattle.table_free.proofs.gaps.collect.Goals as goal
 
-pub loop-i-init : goal.loop-i-init
-loop-i-init c = (search rules, (c.requires.1.0, (search rules, refl)))
+pub returns-in_err-r-clause-said : goal.returns-in_err-r-clause-said
+returns-in_err-r-clause-said c =
+    let p = err_from_is_err_and c.from_residual.result c.from_residual.ensures.1 in
+    let s = c.in-Some.ensures.steps in
+    let f = pair-refused c.args.align c.in-Some.pair.now _ _ s.1.0 (s.1.1 ∙ c.loop-pair.invariant.two) (runs_in c.loop-pair.runs) _ c.in_err-r.ensures in
+    rw (p.1, p.2) (sym (c.loop-pair.invariant.found ∙ f), tt)
 
-pub returns-in-OutOfRange : goal.returns-in-OutOfRange
-returns-in-OutOfRange c =
-    let e = c.loop-i.invariant.1.1.1 ∙ pair-seven c.args.align c.args.ps.now c.loop-i.i (search rules) c.gap_of-g.result c.gap_of-g.ensures (runs_in c.loop-i.runs) (ap gap_said c.in-OutOfRange.is) in
-    (told_same c.refused.result (refuses 7) _ (sym e) c.refused.ensures, omega (arith, told-empty c.refused.result 7 c.refused.ensures))
+pub loop-pair-preserved-in_default : goal.loop-pair-preserved-in_default
+loop-pair-preserved-in_default c =
+    let s = c.in-Some.ensures.steps in
+    let g = sym (ap (λ (o : Option Run). gap_said (Ok o)) c.in_default.is) ∙ c.in_ok-r.ensures in
+    record {
+      two = s.0 ∙ c.loop-pair.invariant.two;
+      listed = c.loop-pair.invariant.listed;
+      few = search rules;
+      found = c.loop-pair.invariant.found ∙ pair-none c.args.align c.in-Some.pair.now _ _ s.1.0 (s.1.1 ∙ c.loop-pair.invariant.two) (runs_in c.loop-pair.runs) g;
+    }
 
-pub loop-i-preserved-in-Nothing : goal.loop-i-preserved-in-Nothing
-loop-i-preserved-in-Nothing c =
-    let v = ap (λ (x : Gap). runs_in c.loop-i.runs ++ value_or [] (gap_said x)) c.in-Nothing.is in
-    let e = pair-on c.args.align c.args.ps.now c.loop-i.i (search rules) c.gap_of-g.result c.gap_of-g.ensures (runs_in c.loop-i.runs) (ap (λ (x : Gap). failure (gap_said x)) c.in-Nothing.is) in
-    (search rules, (c.loop-i.invariant.1.0, (search rules, c.loop-i.invariant.1.1.1 ∙ e ∙ ap (λ (rs : List Run). joined rs (runs_among c.args.align (drop (c.loop-i.i + 2) c.args.ps.now))) (v ∙ append-nil (runs_in c.loop-i.runs)))))
+pub loop-pair-preserved : goal.loop-pair-preserved
+loop-pair-preserved c =
+    let s = c.in-Some.ensures.steps in
+    let g = sym (ap (λ (o : Option Run). gap_said (Ok o)) c.in-Some-2.is) ∙ c.in_ok-r.ensures in
+    let w = listed_more c.loop-pair.runs c.in-Some-2.r c.loop-pair.invariant.listed (search rules) in
+    let n = ap length s.1.0 ∙ length-append c.in-Some.pair.now (chunks_exact_rest c.next.new.self) in
+    record {
+      two = s.0 ∙ c.loop-pair.invariant.two;
+      listed = listed-again _ _ w;
+      few = omega (arith, n, s.1.1, c.loop-pair.invariant.two, c.loop-pair.invariant.few);
+      found = c.loop-pair.invariant.found
+          ∙ pair-some c.args.align c.in-Some.pair.now _ _ s.1.0 (s.1.1 ∙ c.loop-pair.invariant.two) (runs_in c.loop-pair.runs) c.in-Some-2.r g
+          ∙ ap (λ rs. joined rs (runs_among c.args.align (chunks_exact_rest c.next.new.self))) (sym (ap runs_in w ∙ runs-listed _));
+    }
 
-pub loop-i-preserved : goal.loop-i-preserved
-loop-i-preserved c =
-    let v = ap (λ (x : Gap). runs_in c.loop-i.runs ++ value_or [] (gap_said x)) c.in-Free.is in
-    let e = pair-on c.args.align c.args.ps.now c.loop-i.i (search rules) c.gap_of-g.result c.gap_of-g.ensures (runs_in c.loop-i.runs) (ap (λ (x : Gap). failure (gap_said x)) c.in-Free.is) in
-    let w = listed_more c.loop-i.runs c.in-Free.r c.loop-i.invariant.1.0 (search rules) in
-    (search rules, (listed-again _ _ w, (search rules, c.loop-i.invariant.1.1.1 ∙ e ∙ ap (λ (rs : List Run). joined rs (runs_among c.args.align (drop (c.loop-i.i + 2) c.args.ps.now))) (v ∙ sym (ap runs_in w ∙ runs-listed _)))))
-
-pub returns : goal.returns
-returns c =
-    let e = c.loop-i.invariant.1.1.1 ∙ pair_end c.args.align c.args.ps.now c.loop-i.i (runs_in c.loop-i.runs) c.loop-i-test.false in
-    (told_same (record { answer = Done; runs = c.loop-i.runs }) (gives (runs_in c.loop-i.runs)) _ (sym e) (refl, c.loop-i.invariant.1.0), search rules)
+pub returns-clause-said : goal.returns-clause-said
+returns-clause-said c =
+    let s = c.in-None.ensures.steps.1 in
+    let h : length (chunks_exact_rest c.loop-pair.pair-iterator) < 2 = omega (arith, s.0, c.loop-pair.invariant.two) in
+    (sym (c.loop-pair.invariant.found ∙ pair_end c.args.align _ (runs_in c.loop-pair.runs) h), c.loop-pair.invariant.listed)

@@ -1,17 +1,29 @@
-use Rattle.table_free.specs.Free.{primary_zones}
-use Rattle.table_free.proofs.Laws.{more-on, closed_on, primary-steps, positions-steps}
-use Rattle.base.specs.Said.{gives}
-use mathlib.Core.List.{[], ◌∷◌}
-use mathlib.Core.Path.{◌∙◌}
-use native.Mathlib.Omega.{arith}
+use Rattle.std.proofs.Common.{length, rules, arith, ℕ, sym, ap, ◌∙◌, ◌≡◌, List}
+use Rattle.std.proofs.lemmas.Result.{err_from_is_err_and}
+use Rattle.base.specs.Said.{Said, gives}
+use Rattle.table_free.specs.Free.{primary_zones, points_in, closed}
+use Rattle.table_free.proofs.Laws.{primary-on, primary-end, positions-steps}
 use Rattle.table_free.proofs.search.primary_points.Goals as goal
 
-pub returns : goal.returns
-returns c =
-    let es = c.args.one ∷ c.args.two ∷ c.args.three ∷ c.args.four ∷ [] in
-    let o = more-on 0 c.args.one c.from.ensures.0 c.with.ensures.0 in
-    let p = more-on 0 c.args.two o c.with-2.ensures.0 in
-    let q = more-on 0 c.args.three p c.with-3.ensures.0 in
-    let r = more-on 0 c.args.four q c.with-all.ensures.0 in
-    let e = r ∙ primary-steps (gives (0 ∷ [])) c.args.one c.args.two c.args.three c.args.four in
-    (c.to.ensures.0 ∙ closed_on e c.wide.ensures.0 ∙ positions-steps 0 c.args.disk (primary_zones es), omega (arith, c.to.ensures.1, c.with-all.ensures.1, c.with-3.ensures.1, c.with-2.ensures.1, c.with.ensures.1, c.from.ensures.1))
+pub returns-in_err-p-clause-said : goal.returns-in_err-p-clause-said
+returns-in_err-p-clause-said c =
+    let n : length c.args.entries ≡ 4 = search rules in
+    let p = err_from_is_err_and c.from_residual.result c.from_residual.ensures.1 in
+    let on = primary-on c.args.entries c.loop-e.e-index (omega (arith, n, c.loop-e-test.true)) (gives (points_in c.loop-e.p)) _ c.in_err-p.ensures.said in
+    rw (p.1, p.2) (sym (ap (λ (v : Said (List ℕ)). closed v c.args.disk) (c.loop-e.invariant.said ∙ on)) ∙ positions-steps 0 c.args.disk (primary_zones c.args.entries))
+
+pub loop-e-preserved : goal.loop-e-preserved
+loop-e-preserved c =
+    let n : length c.args.entries ≡ 4 = search rules in
+    record {
+      few = omega (arith, c.loop-e.invariant.few, c.in_ok-p.ensures.few);
+      said = c.loop-e.invariant.said ∙ primary-on c.args.entries c.loop-e.e-index (omega (arith, n, c.loop-e-test.true)) (gives (points_in c.loop-e.p)) _ c.in_ok-p.ensures.said;
+    }
+
+pub returns-clause-said : goal.returns-clause-said
+returns-clause-said c =
+    let n : length c.args.entries ≡ 4 = search rules in
+    let e = c.loop-e.invariant.said ∙ primary-end c.args.entries c.loop-e.e-index (omega (arith, n, c.loop-e-test.false)) (gives (points_in c.loop-e.p)) in
+    let d : c.wide.result ≡ c.args.disk = omega arith in
+    c.to.ensures.said ∙ ap (closed (gives (points_in c.loop-e.p))) d ∙ ap (λ (v : Said (List ℕ)). closed v c.args.disk) (sym e)
+    ∙ positions-steps 0 c.args.disk (primary_zones c.args.entries)

@@ -1,33 +1,25 @@
-use Rattle.std.proofs.Common.{◌≡◌, ◌≤◌, length, rules, arith, ap, ◌∙◌}
-use Rattle.table_free.specs.declared.Run.{Run}
-use Rattle.table_free.specs.Free.{run, most_runs}
-use Rattle.table_lent.proofs.planned.Laws.{laid, laid-zero, laid-suc, laid-all, planned-stores}
-use lib.ListN.{set}
-use mathlib.Core.List.{List}
+use Rattle.std.proofs.Common.{◌≡◌, rules, arith, refl, length}
+use Rattle.std.proofs.lemmas.Result.{err_from_is_err_and}
+use lib.Seq.{length-take-le}
+use borrow.Author.Tests.{lt-leb, le-leb}
+use Rattle.table_free.specs.Free.{runs_in, most_runs}
+use Rattle.table_lent.specs.Runs.{free_for, first}
 use Rattle.table_lent.proofs.lent_list.free_into.Goals as goal
 
-pub loop-i-init : goal.loop-i-init
-loop-i-init c = record { turns = search rules; stored = laid-zero _ _ }
+pub returns-in_err-found : goal.returns-in_err-found
+unfolding free_for first
+returns-in_err-found c =
+    let p = err_from_is_err_and c.from_residual.result c.from_residual.ensures.1 in
+    rw (p.1, p.2, ← c.in_err-found.ensures.said.0) (refl, refl)
 
--- one more run is stored
-pub loop-i-preserved : goal.loop-i-preserved
-loop-i-preserved c =
-    let p = c.planned-p.result in
-    let i = c.loop-i.i in
-    let l = c.args.runs.now in
-    let z = run 0 0 in
-    let many : length p.runs ≡ most_runs = search rules in
-    let e = laid-suc p.runs l i z (omega arith) (omega arith) in
-    record {
-      turns = search rules;
-      stored = ap (λ (w : List Run). set w i c.run_of.result) c.loop-i.invariant.stored ∙ ap (set (laid p.runs l i) i) c.run_of.ensures ∙ e;
-    }
+pub returns-then-runs-lt-RUNS : goal.returns-then-runs-lt-RUNS
+unfolding free_for first
+returns-then-runs-lt-RUNS c = rw (← c.in_ok-found.ensures.said.0, lt-leb _ _ c.if-runs-lt-RUNS.true) (refl, refl)
 
 pub returns : goal.returns
+unfolding free_for first
 returns c =
-    let p = c.planned-p.result in
-    let l = c.args.runs.now in
-    let many : length p.runs ≡ most_runs = search rules in
-    let done : c.loop-i.i ≡ p.stores = omega arith in
-    let h : p.stores ≤ length p.runs = omega arith in
-    (c.planned-p.ensures.0, c.loop-i.invariant.stored ∙ ap (laid p.runs l) done ∙ laid-all p.runs l _ p.stores h (planned-stores c.args.t (length l) p c.planned-p.ensures))
+    let x = c.in_ok-found.found in
+    let n : length x.at ≡ most_runs = search rules in
+    let l : length (runs_in x) ≡ x.count = length-take-le x.count x.at (omega (arith, c.in_ok-found.ensures.few)) in
+    rw (← c.in_ok-found.ensures.said.0, le-leb _ _ c.if-runs-lt-RUNS.false, l, c.copy_from_slice.ensures.after) (refl, refl)

@@ -1,6 +1,6 @@
 use mathlib.Core.Path.{sym, ap, ◌∙◌}
 use lib.ListN.{get_or}
-use Rattle.base.specs.Checks.{first-fail, checked}
+use Rattle.base.specs.Checks.{answer}
 use Rattle.table.specs.declared.LogicalPartition.{LogicalPartition}
 use Rattle.table.specs.Table.{logicals, no_logical}
 use Rattle.table_address.specs.declared.Geometry.{Geometry}
@@ -15,12 +15,8 @@ returns c =
     let t = table_in c.args.b.now in
     let q = geometry_of t in
     let l = c.placed_slot-l.result in
-    let g = c.geometry.ensures in
     let m = get_or (first_at_start c.args.x (logicals t)) c.args.i no_logical in
-    record {
-      answer_value = c.with_geometry.ensures.answer_value ∙ ap (λ (g : Geometry). first-fail (slot_geometry g l)) g ∙ ap (λ (l : LogicalPartition). first-fail (slot_geometry q l)) c.placed_slot-l.ensures;
-      logical_value = c.with_geometry.ensures.logical_value
-          ∙ ap (λ (g : Geometry). checked (slot_geometry g l) (λ _. l) (by_geometry g l)) g
-          ∙ ap (λ (l : LogicalPartition). checked (slot_geometry q l) (λ _. l) (by_geometry q l)) c.placed_slot-l.ensures
-          ∙ ap (checked (slot_geometry q m) (λ _. m)) (sym (settled_at q c.args.x c.args.i (logicals t) (held_in c.args.b.now c.requires.0 c.args.x c.args.i c.requires.1)));
-    }
+    c.with_geometry.ensures
+    ∙ ap (λ (g : Geometry). answer (slot_geometry g l) (by_geometry g l)) c.geometry.ensures
+    ∙ ap (λ (l : LogicalPartition). answer (slot_geometry q l) (by_geometry q l)) c.placed_slot-l.ensures
+    ∙ ap (answer (slot_geometry q m)) (sym (settled_at q c.args.x c.args.i (logicals t) (held_in c.args.b.now c.requires.0 c.args.x c.args.i c.requires.1)))

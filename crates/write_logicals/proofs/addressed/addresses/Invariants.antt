@@ -1,5 +1,4 @@
 use lib.ListN.{drop}
-use Prim.Native.Nat.{◌-◌, ◌≤◌}
 use mathlib.Core.Path.{◌≡◌}
 use Rattle.base.specs.Checks.{first-fail}
 use Rattle.table.specs.Table.{logicals}
@@ -9,7 +8,4 @@ use Rattle.write_rules.specs.AsWritten.{first_at_start, all_geometry, slots_geom
 use Rattle.write_logicals.proofs.addressed.addresses.Given as goal
 
 abbrev pub invariant-loop-i : goal.invariant-loop-i
-invariant-loop-i l = (l.i ≤ l.n) × (first-fail (slots_geometry (table_in l.b) l.x) ≡ first-fail (all_geometry (geometry_of (table_in l.b)) (drop l.i (first_at_start l.x (logicals (table_in l.b))))))
-
-abbrev pub decreases-loop-i : goal.decreases-loop-i
-decreases-loop-i l = l.n - l.i
+invariant-loop-i l = first-fail (slots_geometry (table_in l.b) l.x) ≡ first-fail (all_geometry (geometry_of (table_in l.b)) (drop l.i (first_at_start l.x (logicals (table_in l.b)))))

@@ -1,0 +1,55 @@
+// A case file on standard input, answered line by line on standard output.
+// Its commands work on X, the lent input, and O, the lent output, each the first part of a buffer.
+use crate::line::Line;
+use crate::show::Out;
+use read_full::read_full;
+use std::io;
+use std::io::{BufWriter, Write};
+
+// The bytes of the largest X, and of the largest O.
+const LARGEST: usize = 65536;
+
+// The bytes of the largest case file.
+const TEXT: usize = 393216;
+
+// Answers each line by its command: what `answer` writes stands behind the command's name, and it is false where it knows no such
+// command. The commands #, xp, x and o write nothing: a remark, bytes into X, X as zeros, O as many of one byte.
+pub fn run<F>(rt: &HostRuntime, answer: F) -> io::Result<()>
+where
+    F: Fn(&mut Out, Line<'_>, &[u8], &mut [u8]) -> io::Result<bool>,
+    requires { F.IsAlwaysCallable answer }
+{
+    let mut text = [0u8; TEXT];
+    let mut x = [0u8; LARGEST];
+    let mut o = [0u8; LARGEST];
+    let n = read_full(&mut rt.stdin(), &mut text)?;
+    let mut out = BufWriter::new(rt.alloc(), rt.stdout())?;
+    let mut lent_in = 0;
+    let mut lent_out = 0;
+    for line in text[..n].split_inclusive(|b| *b == b'\n') {
+        let l = Line(line.strip_suffix(b"\n").unwrap_or(line));
+        match l.word(0) {
+            b"#" => {}
+            b"xp" => l.hex_over(2, &mut x, l.number(1)),
+            b"x" => {
+                x.fill(0);
+                lent_in = l.number::<usize>(1);
+            }
+            b"o" => {
+                o.fill(l.number(2));
+                lent_out = l.number::<usize>(1);
+            }
+            command => {
+                out.write_all(command)?;
+                let lent_x = &x[..lent_in.min(LARGEST)];
+                let lent_o = &mut o[..lent_out.min(LARGEST)];
+                if answer(&mut out, l, lent_x, lent_o)? {
+                    out.write_all(b"\n")?;
+                } else {
+                    out.write_all(b" unknown\n")?;
+                }
+            }
+        }
+    }
+    out.flush()
+}

@@ -48,7 +48,7 @@ pub fn cv_get(b: &[u8], number: u32, out: &mut [u8]) -> u8
     ensures said { result ≡ entry_status (length out.old) (and_then (block_says b.now) (λ t. get_says t number)) }
     ensures left { out.new ≡ entry_after out.old (and_then (block_says b.now) (λ t. get_says t number)) }
 {
-    match block_lookup::by_number::get(b, number) {
+    match block_lookup::by_number::get(b, number as usize) {
         Err(k) => k.number(),
         Ok(None) => abi_word::NOTHING,
         Ok(Some(e)) => abi_word::status(block_lookup::entry_bytes::put_found(e, out)),

@@ -20,11 +20,11 @@ fn place_of(b: &[u8], which: Which, size: u32) -> Result<Option<u32>, Refusal>
     requires { Passed b.now }
     ensures { answered result ≡ place_by which (table_in b.now) size }
 {
-    let runs = crate::search::free_of(b)?;
+    let found = crate::search::free_of(b);
     match which {
-        Which::First => Ok(places::start_by(runs, Rule::First, size)),
-        Which::Last => Ok(places::last_by(runs, base::get32(b, 8), size)),
-        Which::Optimal => Ok(places::start_by(runs, Rule::Smallest, size)),
+        Which::First => places::start_by(found, Rule::First, size),
+        Which::Last => places::last_by(found, base::get32(b, 8), size),
+        Which::Optimal => places::start_by(found, Rule::Smallest, size),
     }
 }
 

@@ -35,9 +35,12 @@ fn extended_points(b: &[u8], e: MBRPartitionEntry) -> Result<Points, Refusal>
     for i in 0..n {
         let place = block_read::fields::ebr_lba(b, i);
         let l = block_read::fields::logical(b, i);
-        p = p.with(place, l)?;
+        p.add(place, l)?;
     }
-    p.to(table_free::wide(e.starting_lba) + table_free::wide(e.sectors))
+    Points::to(
+        Ok(p),
+        table_free::wide(e.starting_lba) + table_free::wide(e.sectors),
+    )
 }
 
 // Free runs of the table in a block, as the crate finds them.

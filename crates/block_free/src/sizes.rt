@@ -19,11 +19,12 @@ fn size_of(b: &[u8], whose: Whose) -> Result<u32, Refusal>
     requires { Passed b.now }
     ensures { answered result ≡ size_for whose (table_in b.now) }
 {
-    let runs = crate::search::free_of(b)?;
+    let found = crate::search::free_of(b);
     match whose {
-        Whose::New => sizes::size_by(runs, base::get32(b, 8)),
+        Whose::New => sizes::size_by(found, base::get32(b, 8)),
         Whose::Number(i) => {
-            let Some(e) = block_lookup::by_number::entry(b, i) else {
+            let runs = found?;
+            let Some(e) = block_lookup::by_number::entry(b, i as usize) else {
                 return Err(Refusal::PartitionNotFound);
             };
             sizes::grown(e, runs)

@@ -10,7 +10,7 @@ use base::Refusal;
 use record_entry::MBRPartitionEntry;
 
 // The first logical partition that holds a sector; the search ends at a hit or a refusal.
-fn among_logicals(b: &[u8], sector: u32) -> Result<Option<u32>, Refusal>
+fn among_logicals(b: &[u8], sector: u32) -> Result<Option<usize>, Refusal>
     requires { Passed b.now }
     ensures { answered result ≡ number_of (among_logicals (table_in b.now) sector) }
 {
@@ -19,7 +19,7 @@ fn among_logicals(b: &[u8], sector: u32) -> Result<Option<u32>, Refusal>
     for i in 0..n {
         let e = block_read::fields::logical(b, i);
         if table_lookup::hits::is_within(sector, e)? {
-            return Ok(Some((5 + i) as u32));
+            return Ok(Some(5 + i));
         }
     }
     Ok(None)
@@ -29,9 +29,9 @@ fn among_logicals(b: &[u8], sector: u32) -> Result<Option<u32>, Refusal>
 pub fn after_hit(
     b: &[u8],
     sector: u32,
-    number: u32,
+    number: usize,
     e: MBRPartitionEntry,
-) -> Result<Option<u32>, Refusal>
+) -> Result<Option<usize>, Refusal>
     requires { Passed b.now }
     ensures { answered result ≡ turned (table_in b.now) sector (Some (numbered number e)) }
 {

@@ -16,7 +16,10 @@ pub fn find(b: &[u8], sector: u32) -> Result<Option<u32>, Refusal>
     for i in 0..4 {
         let e = block_read::fields::primary(b, i);
         if table_lookup::hits::is_within(sector, e)? {
-            return crate::after_hit::after_hit(b, sector, (1 + i) as u32, e);
+            let Some(n) = crate::after_hit::after_hit(b, sector, 1 + i, e)? else {
+                return Ok(None);
+            };
+            return Ok(Some(n as u32));
         }
     }
     Ok(None)

@@ -10,11 +10,11 @@ use record_entry::MBRPartitionEntry;
 use table_lookup::Kind;
 
 // The entry of a partition number, in a block that has passed its checks.
-pub fn entry(b: &[u8], number: u32) -> Option<MBRPartitionEntry>
+pub fn entry(b: &[u8], number: usize) -> Option<MBRPartitionEntry>
     requires { Passed b.now }
     ensures { gives result ≡ get_says (table_in b.now) number }
 {
-    match table_lookup::kind_of(number as usize) {
+    match table_lookup::kind_of(number) {
         Kind::Nothing => None,
         Kind::Primary(i) => Some(block_read::fields::primary(b, i - 1)),
         Kind::Logical(k) => {
@@ -27,7 +27,7 @@ pub fn entry(b: &[u8], number: u32) -> Option<MBRPartitionEntry>
 }
 
 // The entry of a partition number: the block's refusals.
-pub fn get(b: &[u8], number: u32) -> Result<Option<MBRPartitionEntry>, Refusal>
+pub fn get(b: &[u8], number: usize) -> Result<Option<MBRPartitionEntry>, Refusal>
     ensures { answered result ≡ and_then (block_says b.now) (λ t. get_says t number) }
 {
     block_read::checks::check(b)?;

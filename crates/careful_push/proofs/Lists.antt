@@ -81,17 +81,17 @@ order-few p (l ∷ ls) = omega (arith, up-few p ls)
 -- what a new partition at p stands between: nothing behind it, or another
 module _ (e : MBRPartitionEntry) (p : ℕ) (ls : List LogicalPartition) (k : ℕ) (before : Option LogicalPartition) where
   pub between_none : (b : ℕ) (link : MBRPartitionEntry) → k ≡ order_at p ls → before ≡ slice_get (take k ls) (length (take k ls) - 1) → b ≡ end_of e → link ≡ no_entry → length ls ≤ k
-      → record { earlier = before; bound = b; link = link } ≡ between e p ls
+      → record { order = k; earlier = before; bound = b; link = link } ≡ between e p ls
   unfolding between behind_at
   between_none b link h q r s n =
       let late : later_one p ls ≡ None = ap (λ (j : ℕ). next (drop j ls) None) (sym h) ∙ ap (λ (z : List LogicalPartition). next z None) (drop_of_length-le ls n) in
       let x : before ≡ earlier_one p ls = q ∙ earlier-last p ls k h in
       let y : b ≡ bound (end_of e) (later_one p ls) = r ∙ sym (ap (bound (end_of e)) late) in
       let z : link ≡ link_behind e (later_one p ls) = s ∙ sym (ap (link_behind e) late ∙ link-none e) in
-      λ i. record { earlier = x i; bound = y i; link = z i }
+      λ i. record { order = h i; earlier = x i; bound = y i; link = z i }
 
   pub between-some : (later d : LogicalPartition) (link : MBRPartitionEntry) → k ≡ order_at p ls → before ≡ slice_get (take k ls) (length (take k ls) - 1) → later ≡ get_or ls k d
-      → link ≡ link_behind e (Some later) → k < length ls → record { earlier = before; bound = at later; link = link } ≡ between e p ls
+      → link ≡ link_behind e (Some later) → k < length ls → record { order = k; earlier = before; bound = at later; link = link } ≡ between e p ls
   unfolding between behind_at
   between-some later d link h q r s n =
       let late : later_one p ls ≡ Some later =
@@ -99,4 +99,4 @@ module _ (e : MBRPartitionEntry) (p : ℕ) (ls : List LogicalPartition) (k : ℕ
       let x : before ≡ earlier_one p ls = q ∙ earlier-last p ls k h in
       let y : at later ≡ bound (end_of e) (later_one p ls) = sym (ap (bound (end_of e)) late) in
       let z : link ≡ link_behind e (later_one p ls) = s ∙ sym (ap (link_behind e) late) in
-      λ i. record { earlier = x i; bound = y i; link = z i }
+      λ i. record { order = h i; earlier = x i; bound = y i; link = z i }

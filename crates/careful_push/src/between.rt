@@ -35,11 +35,13 @@ pub fn between_at(t: MBR, e: MBRPartitionEntry, place: u32) -> Between
     let earlier = listed[..k].last().copied();
     match listed.get(k) {
         None => Between {
+            order: k,
             earlier,
             bound: end_of(e),
             link: MBRPartitionEntry::empty(),
         },
         Some(later) => Between {
+            order: k,
             earlier,
             bound: later.absolute_ebr_lba.0 as u64,
             link: link_to(e, *later),

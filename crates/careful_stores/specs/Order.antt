@@ -48,10 +48,11 @@ behind_at p ls = drop (order_at p ls) ls
 abbrev pub later_one : ℕ → List LogicalPartition → Option LogicalPartition
 later_one p ls = next (behind_at p ls) None
 
--- what a new partition at p stands between, in the extended entry e: the one before it, where it must end, and the link to what follows
+-- what a new partition at p stands between, in the extended entry e: how many are before it, the last of them if there is one, where it must end, and the link to what follows
 unfoldable pub between : MBRPartitionEntry → ℕ → List LogicalPartition → Between
 between e p ls =
     record {
+      order = order_at p ls;
       earlier = earlier_one p ls;
       bound = bound (end_of e) (later_one p ls);
       link = link_behind e (later_one p ls);

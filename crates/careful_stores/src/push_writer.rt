@@ -9,9 +9,11 @@ use chain::links::link_to;
 use record_entry::MBRPartitionEntry;
 use table::LogicalPartition;
 
-// What a new partition stands between: the one before it, where it must end, and the link to what follows it.
+// What a new partition stands between: how many are before it, the last of them if there is one, where it must end, and the
+// link to what follows it.
 #[derive(Clone, Copy)]
 pub struct Between {
+    pub order: usize,
     pub earlier: Option<LogicalPartition>,
     pub bound: u64,
     pub link: MBRPartitionEntry,

@@ -22,7 +22,9 @@ where
     let mut text = [0u8; TEXT];
     let mut x = [0u8; LARGEST];
     let mut o = [0u8; LARGEST];
-    let n = read_full(&mut rt.stdin(), &mut text)?;
+    // where a read fails, what was read before it is answered
+    let (n, read) = read_full(&mut rt.stdin(), &mut text);
+    let _ = read;
     let mut out = BufWriter::new(rt.alloc(), rt.stdout())?;
     let mut lent_in = 0;
     let mut lent_out = 0;
@@ -32,24 +34,27 @@ where
             b"#" => {}
             b"xp" => l.hex_over(2, &mut x, l.number(1)),
             b"x" => {
-                x.fill(0);
                 lent_in = l.number::<usize>(1);
+                x[..lent_in.min(LARGEST)].fill(0);
             }
             b"o" => {
-                o.fill(l.number(2));
                 lent_out = l.number::<usize>(1);
+                o[..lent_out.min(LARGEST)].fill(l.number(2));
             }
             command => {
-                out.write_all(command)?;
+                // a write that fails is passed over, here and below
+                let _ = out.write_all(command);
                 let lent_x = &x[..lent_in.min(LARGEST)];
                 let lent_o = &mut o[..lent_out.min(LARGEST)];
-                if answer(&mut out, l, lent_x, lent_o)? {
-                    out.write_all(b"\n")?;
-                } else {
-                    out.write_all(b" unknown\n")?;
-                }
+                let known = answer(&mut out, l, lent_x, lent_o);
+                let end: &[u8] = match known {
+                    Ok(false) => b" unknown\n",
+                    Ok(true) | Err(_) => b"\n",
+                };
+                let _ = out.write_all(end);
             }
         }
     }
-    out.flush()
+    let _ = out.flush();
+    Ok(())
 }

@@ -63,7 +63,9 @@ impl<'a> Line<'a> {
     }
 
     // The number that the decimal digits in front of the word at a place spell, by the last 18 of them; 0 where there are none.
-    pub fn number<T: Lower>(self, k: usize) -> T {
+    pub fn decimal(self, k: usize) -> u64
+        ensures { result < 1000000000000000000 }
+    {
         let mut n: u64 = 0;
         for b in self.word(k) {
             match *b {
@@ -71,7 +73,12 @@ impl<'a> Line<'a> {
                 _ => break,
             }
         }
-        T::lower(n)
+        n
+    }
+
+    // The same number, of a type.
+    pub fn number<T: Lower>(self, k: usize) -> T {
+        T::lower(self.decimal(k))
     }
 
     // Four numbers, from a place on.

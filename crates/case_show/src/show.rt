@@ -1,4 +1,6 @@
 // How the case programs write a value: each part after a space.
+ghost use Rattle.std.specs.Prelude.{◌<◌};
+
 use base::Refusal;
 use std::io;
 use std::io::{BufWriter, Stdout, Write};
@@ -97,13 +99,15 @@ pub struct Checksum<'a>(pub &'a [u8]);
 // The remainder that the sum is taken to.
 const PRIME: u64 = 4294967291;
 
+fn more(sum: u64, b: u8) -> u64
+    ensures { result < 4294967291 }
+{
+    (sum % PRIME * 31 + b as u64) % PRIME
+}
+
 impl Show for Checksum<'_> {
     fn show(&self, out: &mut Out) -> io::Result<()> {
-        let sum = self
-            .0
-            .iter()
-            .fold(0, |sum: u64, b| (sum % PRIME * 31 + *b as u64) % PRIME);
-        sum.show(out)
+        self.0.iter().fold(0, |sum, b| more(sum, *b)).show(out)
     }
 }
 

@@ -10,8 +10,9 @@ use std::io::Write;
 pub fn list_input(rt: &HostRuntime) {
     // one byte more than the largest extract, so that a longer input is refused and not cut
     let mut input = [0u8; extract::LARGEST + 1];
-    // an input that cannot be read is refused as an empty one
-    let n = read_full(&mut rt.stdin(), &mut input).unwrap_or(0);
+    // where a read fails, what was read before it is listed
+    let (n, read) = read_full(&mut rt.stdin(), &mut input);
+    let _ = read;
     let mut text = [0u8; read_listing::LISTING];
     let Ok(length) = read_listing::listing(&input[..n], &mut text) else {
         return;

@@ -15,6 +15,9 @@ ghost use Rattle.read_align.specs.Divisor.{SameDivisors};
 use base::Refusal;
 use table::MBR;
 
+// The most starts: those of four primary and all logical partitions.
+pub const STARTS: usize = 4 + table::LOGICALS;
+
 // The greatest common divisor of all starts; 0 if all are zero. It begins with 0, which every number divides.
 fn common_divisor(starts: &[u32]) -> u32
     ensures { SameDivisors result starts.now }

@@ -8,13 +8,11 @@ ghost use Rattle.chain.specs.Walk.{AllFit};
 ghost use Rattle.read_align.specs.Align.{used_starts, alignment, most_starts};
 ghost use Rattle.read_align.specs.Starts.{starts_found};
 
+use crate::STARTS;
 use arrayvec::ArrayVec;
 use base::Refusal;
 use record_entry::MBRPartitionEntry;
 use record_mbr::MBRHeader;
-
-// The most starts: those of four primary and all logical partitions.
-const STARTS: usize = 4 + table::LOGICALS;
 
 // Adds the entry's start, if it is used.
 fn add(starts: &mut ArrayVec<u32, STARTS>, e: MBRPartitionEntry)

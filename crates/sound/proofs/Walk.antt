@@ -283,7 +283,7 @@ module _ (t : Contents) where
   )
 
   -- the code's order is as good as that of rules S1 to S19
-  walk-sound : walkb t ≡ soundb t
+  pub walk-sound : walkb t ≡ soundb t
   walk-sound = bool-ext (walkb t) (soundb t) (λ h. (is-sound t).from (walk→sound ((is-walk t).to h))) (λ h. (is-walk t).from (sound→walk ((is-sound t).to h)))
 
 -- the parts of the test

@@ -82,7 +82,10 @@ pub fn offset(sector: u32, lba: u32) -> io::Result<u64> {
     extract::byte_place(sector, lba).map_err(|_| io::Error::from(ErrorKind::InvalidInput))
 }
 
-// Reads the sector from its start on, as many bytes as `d` has.
+// Reads the sector from its start on, as many bytes as `d` has; a read that gives fewer has failed.
 pub fn read_at(disk: &File, sector: u32, lba: u32, d: &mut [u8]) -> io::Result<()> {
-    disk.read_exact_at(d, offset(sector, lba)?)
+    match disk.read_at(d, offset(sector, lba)?)? == d.len() {
+        true => Ok(()),
+        false => Err(io::Error::from(ErrorKind::UnexpectedEof)),
+    }
 }

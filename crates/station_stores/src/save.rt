@@ -13,14 +13,19 @@ fn open_folder(rt: &HostRuntime, path: &[u8]) -> io::Result<File> {
     }
 }
 
-// The bytes into a new file, flushed; then the folder is flushed, so that it keeps the new name.
+// The bytes into the file, flushed; then it is closed.
+fn fill(mut file: File, x: &[u8]) -> io::Result<()> {
+    file.write_all(x)?;
+    file.sync_all()
+}
+
+// The bytes into a new file; then the folder is flushed, so that it keeps the new name.
 fn keep(rt: &HostRuntime, path: &[u8], x: &[u8]) -> io::Result<()> {
-    let mut file = OpenOptions::new()
+    let file = OpenOptions::new()
         .write(true)
         .create_new(true)
         .open(rt, paths::name(path)?)?;
-    file.write_all(x)?;
-    file.sync_all()?;
+    fill(file, x)?;
     open_folder(rt, path)?.sync_all()
 }
 

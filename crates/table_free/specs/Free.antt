@@ -142,6 +142,10 @@ points_in p = take p.count p.at
 abbrev pub points_said : Result Points Refusal → Said (List ℕ)
 points_said r = and_then (answered r) (λ p. gives (points_in p))
 
+-- what is said once an entry's are taken in
+abbrev pub points_after : {A : Type 0} → Result A Refusal → Points → Said (List ℕ)
+points_after r p = and_then (answered r) (λ a. gives (points_in p))
+
 -- with those of further runs
 abbrev pub more : Said (List ℕ) → List Run → Said (List ℕ)
 more v zs = and_then v (λ ps. answer ((7 ! allb whole zs) ∷ []) (ps ++ ends zs))

@@ -7,9 +7,9 @@ pub mod ascending;
 pub mod gaps;
 pub mod search;
 
-ghost use Rattle.std.specs.Prelude.{◌≡◌, [], ◌∷◌, ◌+◌, ◌≤◌, ◌<◌, IfOk};
-ghost use Rattle.base.specs.Said.{gives};
-ghost use Rattle.table_free.specs.Free.{u32, zone, run_list, points_in, points_said, more, closed, ends_said, most_points};
+ghost use Rattle.std.specs.Prelude.{◌≡◌, [], ◌∷◌, ◌+◌, ◌≤◌, ◌<◌, IfOk, OnErr};
+ghost use Rattle.base.specs.Said.{gives, refusal, failure};
+ghost use Rattle.table_free.specs.Free.{u32, zone, run_list, points_in, points_said, points_after, more, closed, ends_said, most_points};
 
 use base::Refusal;
 use record_entry::MBRPartitionEntry;
@@ -34,7 +34,7 @@ pub struct Runs {
 // The most positions of an area: its two bounds, and two for each partition.
 pub const POINTS: usize = 2 + 2 * LOGICALS;
 
-// The positions of an area. A count beside an array: `with` gives back another one, and `to` ends it.
+// The positions of an area. A count beside an array: `add` takes in an entry's, and `to` ends it.
 #[derive(Clone, Copy)]
 pub struct Points {
     pub at: [u32; POINTS],
@@ -73,37 +73,53 @@ impl Points {
         Points { at: at, count: 1 }
     }
 
-    // With first and last sector of the entry, if it is used; its start is counted from `place`: 7.
-    pub fn with(self, place: u32, e: MBRPartitionEntry) -> Result<Points, Refusal>
-        requires { self.count + 2 ≤ most_points }
-        ensures said { points_said result ≡ more (gives (points_in self)) (zone place e) }
-        ensures few { IfOk result (λ p. p.count ≤ self.count + 2) }
+    // Takes in first and last sector of the entry, if it is used; its start is counted from `place`: 7, and then all is as it was.
+    pub fn add(&mut self, place: u32, e: MBRPartitionEntry) -> Result<(), Refusal>
+        requires { self.old.count + 2 ≤ most_points }
+        ensures refused { refusal result ≡ failure (more (gives (points_in self.old)) (zone place e)) }
+        ensures said { points_after result self.new ≡ more (gives (points_in self.old)) (zone place e) }
+        ensures few { self.new.count ≤ self.old.count + 2 }
+        ensures kept { OnErr result (self.new ≡ self.old) }
     {
         let Some((first, last)) = ends_of(place, e)? else {
-            return Ok(self);
+            return Ok(());
         };
         let n = self.count;
-        let mut next = self;
-        next.at[n] = first;
-        next.at[n + 1] = last;
-        next.count = n + 2;
-        Ok(next)
+        self.at[n] = first;
+        self.at[n + 1] = last;
+        self.count = n + 2;
+        Ok(())
     }
 
-    // With the area's end: 7.
-    pub fn to(self, end: u64) -> Result<Points, Refusal>
-        requires { self.count < most_points }
-        ensures said { points_said result ≡ closed (gives (points_in self)) end }
-        ensures few { IfOk result (λ p. p.count ≤ self.count + 1) }
+    // The same positions as an answer, with those of the entry: the refusal so far, 7.
+    pub fn with(
+        points: Result<Points, Refusal>,
+        place: u32,
+        e: MBRPartitionEntry,
+    ) -> Result<Points, Refusal>
+        requires { IfOk points (λ p. p.count + 2 ≤ most_points) }
+        ensures said { points_said result ≡ more (points_said points) (zone place e) }
+        ensures few { IfOk result (λ q. IfOk points (λ p. q.count ≤ p.count + 2)) }
     {
+        let mut p = points?;
+        p.add(place, e)?;
+        Ok(p)
+    }
+
+    // An answer's positions with the area's end: the refusal so far, 7.
+    pub fn to(points: Result<Points, Refusal>, end: u64) -> Result<Points, Refusal>
+        requires { IfOk points (λ p. p.count < most_points) }
+        ensures said { points_said result ≡ closed (points_said points) end }
+        ensures few { IfOk result (λ q. IfOk points (λ p. q.count ≤ p.count + 1)) }
+    {
+        let mut all = points?;
         if 0xFFFFFFFF < end {
             return Err(Refusal::Arithmetic);
         }
-        let n = self.count;
-        let mut next = self;
-        next.at[n] = end as u32;
-        next.count = n + 1;
-        Ok(next)
+        let n = all.count;
+        all.at[n] = end as u32;
+        all.count = n + 1;
+        Ok(all)
     }
 }
 

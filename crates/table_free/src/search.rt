@@ -28,9 +28,9 @@ pub fn primary_points(entries: [MBRPartitionEntry; 4], disk: u32) -> Result<Poin
 {
     let mut p = Points::from(0);
     for e in &entries {
-        p = p.with(0, *e)?;
+        p.add(0, *e)?;
     }
-    p.to(crate::wide(disk))
+    Points::to(Ok(p), crate::wide(disk))
 }
 
 // The positions of the area of an extended entry: 7.
@@ -41,9 +41,9 @@ fn extended_points(e: MBRPartitionEntry, logicals: &[LogicalPartition]) -> Resul
 {
     let mut p = Points::from(e.starting_lba);
     for l in logicals {
-        p = p.with(l.absolute_ebr_lba.0, l.partition)?;
+        p.add(l.absolute_ebr_lba.0, l.partition)?;
     }
-    p.to(crate::wide(e.starting_lba) + crate::wide(e.sectors))
+    Points::to(Ok(p), crate::wide(e.starting_lba) + crate::wide(e.sectors))
 }
 
 // Free runs of a table, as the crate finds them: rules G5 and F2 to F25.

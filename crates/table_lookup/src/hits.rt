@@ -21,13 +21,17 @@ pub struct Numbered {
 pub fn is_within(sector: u32, e: MBRPartitionEntry) -> Result<bool, Refusal>
     ensures { answered result ≡ holds_says sector e }
 {
-    if e.is_unused() || sector < e.starting_lba {
+    if sector < e.starting_lba {
         return Ok(false);
     }
-    let Some(end) = e.starting_lba.checked_add(e.sectors) else {
+    let end = e.starting_lba as u64 + e.sectors as u64;
+    if end <= sector as u64 {
+        return Ok(false);
+    }
+    if end > u32::MAX as u64 && e.is_used() {
         return Err(Refusal::Arithmetic);
-    };
-    Ok(sector < end)
+    }
+    Ok(e.is_used())
 }
 
 // The first primary that holds a sector.

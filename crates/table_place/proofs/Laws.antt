@@ -2,7 +2,7 @@
 use mathlib.Core.Path.{◌≡◌, refl, sym, ap, ◌∙◌}
 use mathlib.Core.List.{List, [], ◌∷◌}
 use mathlib.Core.Bool.{Bool, true, false}
-use Rattle.std.specs.Prelude.{Option, None, Some}
+use Rattle.std.specs.Prelude.{Option, None, Some, Result, Ok, Err, IfOk}
 use Prim.Native.Nat.{ℕ, ◌+◌, ◌*◌, ◌/◌, ◌≤◌, ◌<◌, max}
 use native.Mathlib.Numerals.{add-one}
 use native.Mathlib.Omega.{arith}
@@ -12,6 +12,7 @@ use lib.ListN.{length, take, drop, get_or, drop_of_length-le}
 use lib.Seq.{drop-cons, length-take-le}
 use borrow.Author.Tests.{lt-ltb, le-ltb, lt-leb, le-leb, leb-true, leb-false, eq-eqb, ne_eqb}
 use Rattle.base.specs.Pick.{pick}
+use Rattle.base.specs.declared.Refusal.{Refusal}
 use Rattle.base.specs.Said.{Said, gives, refuses, and_then}
 use Rattle.table_free.specs.declared.Run.{Run}
 use Rattle.table_free.specs.declared.Runs.{Runs}
@@ -20,7 +21,7 @@ use Rattle.table.specs.declared.MBR.{MBR}
 use Rattle.table.specs.Table.{most}
 use Rattle.table_lookup.specs.Numbers.{entry_of, get_says}
 use Rattle.table_free.proofs.Laws.{free-six}
-use Rattle.table_free.specs.Free.{run, u32, runs_in, free, Ended}
+use Rattle.table_free.specs.Free.{run, u32, runs_in, free_said, free, Ended, Usable, most_runs}
 use Rattle.table_place.specs.declared.Rule.{Rule}
 use Rattle.table_place.specs.declared.Rule.TheVariants.{First, Last, Smallest}
 use Rattle.table_place.specs.Place.{roomy, last_run, smaller, smallest_of, chosen, preferred, largest, or_sixteen, length_at, grown, grown_by, growth, maximum_for}
@@ -115,6 +116,11 @@ last-in size (s ∷ u ∷ rs) r a e = last-in size (u ∷ rs) r a.1 e
 
 pub last_fits : (size : ℕ) (rs : List Run) (s : Option Run) (r : Run) → Ended rs → s ≡ chosen Last (roomy size rs) → s ≡ Some r → (size ≤ r.length) × (r.start + r.length < u32)
 last_fits size rs s r h e z = last-in size (roomy size rs) r (roomy-fit size rs h) (sym e ∙ z)
+
+-- what sizes ask of an answer
+pub few-usable : (r : Result Runs Refusal) (align : ℕ) → IfOk r (λ x. x.count ≤ most_runs) → Usable align (free_said r) → IfOk r (λ x. (x.count ≤ most_runs) × (0 < align))
+few-usable (Ok x) align f u = (f, u.0)
+few-usable (Err k) align f u = tt
 
 -- the largest length
 module _ (rs : List Run) (i align most : ℕ) where

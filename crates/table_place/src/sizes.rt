@@ -1,8 +1,8 @@
 // Sizes, over the free runs of a table: rules Q10 to Q14.
-ghost use Rattle.std.specs.Prelude.{◌≡◌, ◌≤◌, ◌<◌};
+ghost use Rattle.std.specs.Prelude.{◌≡◌, ◌≤◌, ◌<◌, IfOk};
 ghost use Rattle.base.specs.Said.{answered};
-ghost use Rattle.table_free.specs.Free.{runs_in, most_runs};
-ghost use Rattle.table_place.specs.Place.{largest, or_sixteen, maximum_size, length_at, grown, maximum_for};
+ghost use Rattle.table_free.specs.Free.{runs_in, free_said, most_runs};
+ghost use Rattle.table_place.specs.Place.{largest, size_by, maximum_size, length_at, grown, maximum_for};
 
 use base::Refusal;
 use record_entry::MBRPartitionEntry;
@@ -23,11 +23,12 @@ fn largest_in(x: Runs, align: u32) -> u32
     most
 }
 
-// The largest length in whole alignments: 16 if there is no run.
-pub fn size_by(x: Runs, align: u32) -> Result<u32, Refusal>
-    requires { (x.count ≤ most_runs) × (0 < align) }
-    ensures { answered result ≡ or_sixteen align (runs_in x) }
+// The largest length in whole alignments: the search's refusal, 16 if there is no run.
+pub fn size_by(found: Result<Runs, Refusal>, align: u32) -> Result<u32, Refusal>
+    requires { IfOk found (λ x. (x.count ≤ most_runs) × (0 < align)) }
+    ensures { answered result ≡ size_by align (free_said found) }
 {
+    let x = found?;
     if x.count == 0 {
         return Err(Refusal::NoSpaceLeft);
     }
@@ -37,7 +38,7 @@ pub fn size_by(x: Runs, align: u32) -> Result<u32, Refusal>
 pub fn get_maximum_partition_size(t: MBR) -> Result<u32, Refusal>
     ensures { answered result ≡ maximum_size t }
 {
-    size_by(find_free_sectors(t)?, t.align)
+    size_by(find_free_sectors(t), t.align)
 }
 
 // The length of the first run that starts at p; 0 if there is none.

@@ -1,5 +1,5 @@
 use Rattle.station_disk.proofs.Room.{laid-fits}
 use Rattle.station_disk.proofs.gather.add.Goals as goal
 
-pub returns-in-Ok : goal.returns-in-Ok
-returns-in-Ok c = laid-fits _ _ _ _ _ c.in-Ok.ensures.said
+pub returns-in-None : goal.returns-in-None
+returns-in-None c = laid-fits _ _ _ _ _ c.in-Ok.ensures.said

@@ -5,17 +5,17 @@ use Rattle.table_free.specs.Free.{logical_zones, points_in, closed}
 use Rattle.table_free.proofs.Laws.{logical-on, logical-end, positions-steps}
 use Rattle.table_free.proofs.search.extended_points.Goals as goal
 
-pub returns-in_err-p-clause-said : goal.returns-in_err-p-clause-said
-returns-in_err-p-clause-said c =
+pub returns-in_err-add-clause-said : goal.returns-in_err-add-clause-said
+returns-in_err-add-clause-said c =
     let p = err_from_is_err_and c.from_residual.result c.from_residual.ensures.1 in
-    let on = logical-on c.args.logicals.now c.loop-l.l-index c.loop-l-test.true (gives (points_in c.loop-l.p)) _ c.in_err-p.ensures.said in
+    let on = logical-on c.args.logicals.now c.loop-l.l-index c.loop-l-test.true (gives (points_in c.loop-l.p)) _ c.in_err-add.ensures.said in
     rw (p.1, p.2) (sym (ap (λ (v : Said (List ℕ)). closed v (c.args.e.starting_lba + c.args.e.sectors)) (c.loop-l.invariant.said ∙ on)) ∙ positions-steps c.args.e.starting_lba (c.args.e.starting_lba + c.args.e.sectors) (logical_zones c.args.logicals.now))
 
 pub loop-l-preserved : goal.loop-l-preserved
 loop-l-preserved c =
     record {
-      few = omega (arith, c.loop-l.invariant.few, c.in_ok-p.ensures.few);
-      said = c.loop-l.invariant.said ∙ logical-on c.args.logicals.now c.loop-l.l-index c.loop-l-test.true (gives (points_in c.loop-l.p)) _ c.in_ok-p.ensures.said;
+      few = omega (arith, c.loop-l.invariant.few, c.in_ok-add.ensures.few);
+      said = c.loop-l.invariant.said ∙ logical-on c.args.logicals.now c.loop-l.l-index c.loop-l-test.true (gives (points_in c.loop-l.p)) _ c.in_ok-add.ensures.said;
     }
 
 pub returns-clause-said : goal.returns-clause-said

@@ -1,6 +1,7 @@
-use Rattle.table_free.specs.Free.{runs_in}
-use Rattle.table_free.proofs.Laws.{usable-runs}
+use Rattle.table_free.proofs.Laws.{free-usable}
+use Rattle.table_place.proofs.Laws.{few-usable}
 use Rattle.table_place.proofs.sizes.get_maximum_partition_size.Goals as goal
 
 pub size_by-requires : goal.size_by-requires
-size_by-requires c = (c.in_ok-find_free_sectors.ensures.few, (usable-runs c.args.t (runs_in c.in_ok-find_free_sectors.field-0) c.in_ok-find_free_sectors.ensures.said.0).0)
+size_by-requires c =
+    few-usable c.find_free_sectors.result c.args.t.align c.find_free_sectors.ensures.few (rw (← c.find_free_sectors.ensures.said.0) at (free-usable c.args.t))

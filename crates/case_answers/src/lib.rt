@@ -12,16 +12,13 @@ pub mod on_record;
 
 use case_show::line::Line;
 use case_show::show::Out;
-use std::io;
 
 // Answers the line; false if it knows no such command.
-pub fn run(out: &mut Out, l: Line<'_>, x: &[u8], o: &mut [u8]) -> io::Result<bool> {
-    Ok(
-        on_chs::run(out, l)?
-            || on_entry::run(out, l)?
-            || on_mbr::run(out, l, x)?
-            || on_record::run(out, l, x, o)?
-            || on_ebr::run(out, l, x, o)?
-            || on_extract::run(out, l, x, o)?,
-    )
+pub fn run(out: &mut Out, l: Line<'_>, x: &[u8], o: &mut [u8]) -> bool {
+    on_chs::run(out, l)
+        || on_entry::run(out, l)
+        || on_mbr::run(out, l, x)
+        || on_record::run(out, l, x, o)
+        || on_ebr::run(out, l, x, o)
+        || on_extract::run(out, l, x, o)
 }

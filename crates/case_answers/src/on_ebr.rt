@@ -2,7 +2,6 @@
 use case_show::line::Line;
 use case_show::show::{Out, Show, answered};
 use record_ebr::{EBRHeader, Kept, MARK, reader, writer};
-use std::io;
 
 // The bytes of X from an index on, and zeros behind its end.
 pub fn part<const N: usize>(x: &[u8], at: usize) -> [u8; N] {
@@ -26,21 +25,21 @@ fn given(l: Line<'_>, x: &[u8]) -> EBRHeader {
 }
 
 // Answers the line if its command is one of these.
-pub fn run(out: &mut Out, l: Line<'_>, x: &[u8], o: &mut [u8]) -> io::Result<bool> {
+pub fn run(out: &mut Out, l: Line<'_>, x: &[u8], o: &mut [u8]) -> bool {
     match l.word(0) {
-        b"ebr_read" => reader::read(x).show(out)?,
+        b"ebr_read" => reader::read(x).show(out),
         b"ebr_write" => {
             let answer = writer::write(given(l, x), o);
-            answered(out, &answer, o)?;
+            answered(out, &answer, o);
         }
         b"ebr_again" => match reader::read(x) {
             Ok(e) => {
                 let answer = writer::write(e, o);
-                answered(out, &answer, o)?;
+                answered(out, &answer, o);
             }
-            Err(r) => r.show(out)?,
+            Err(r) => r.show(out),
         },
-        _ => return Ok(false),
+        _ => return false,
     }
-    Ok(true)
+    true
 }

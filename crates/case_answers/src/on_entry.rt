@@ -4,7 +4,6 @@ ghost use Rattle.std.specs.Prelude.{◌<◌};
 use case_show::line::Line;
 use case_show::show::{Out, Show};
 use record_entry::{BOOT_ACTIVE, BOOT_INACTIVE, MBRPartitionEntry};
-use std::io;
 
 // The entry in ten words of the line, after `k` spaces.
 pub fn given(l: Line<'_>, k: usize) -> MBRPartitionEntry
@@ -21,21 +20,21 @@ pub fn given(l: Line<'_>, k: usize) -> MBRPartitionEntry
 }
 
 // Answers the line if its command is one of these.
-pub fn run(out: &mut Out, l: Line<'_>) -> io::Result<bool> {
+pub fn run(out: &mut Out, l: Line<'_>) -> bool {
     match l.word(0) {
         b"entry_boot" => {
-            BOOT_ACTIVE.show(out)?;
-            BOOT_INACTIVE.show(out)?;
+            BOOT_ACTIVE.show(out);
+            BOOT_INACTIVE.show(out);
         }
-        b"entry_empty" => MBRPartitionEntry::empty().show(out)?,
+        b"entry_empty" => MBRPartitionEntry::empty().show(out),
         b"entry_is" => {
             let e = given(l, 1);
-            e.is_used().show(out)?;
-            e.is_unused().show(out)?;
-            e.is_extended().show(out)?;
-            e.is_active().show(out)?;
+            e.is_used().show(out);
+            e.is_unused().show(out);
+            e.is_extended().show(out);
+            e.is_active().show(out);
         }
-        _ => return Ok(false),
+        _ => return false,
     }
-    Ok(true)
+    true
 }

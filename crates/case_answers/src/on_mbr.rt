@@ -1,9 +1,7 @@
 // The cases of MBR headers.
 use case_show::line::Line;
-use case_show::show::{Out, Show};
+use case_show::show::{Out, Show, text};
 use record_mbr::{MBRHeader, Protection};
-use std::io;
-use std::io::Write;
 
 // The header in the line's words: disk signature, copy mark and boot signature byte by byte, then four entries. The code is
 // the start of X.
@@ -21,17 +19,17 @@ pub fn given(l: Line<'_>, x: &[u8]) -> MBRHeader {
 }
 
 // Answers the line if its command is one of these.
-pub fn run(out: &mut Out, l: Line<'_>, x: &[u8]) -> io::Result<bool> {
+pub fn run(out: &mut Out, l: Line<'_>, x: &[u8]) -> bool {
     match l.word(0) {
-        b"mbr_new" => MBRHeader::new(l.four(1)).show(out)?,
-        b"mbr_get" => given(l, x).get(l.number(49)).show(out)?,
-        b"mbr_extended" => given(l, x).get_extended_partition().show(out)?,
+        b"mbr_new" => MBRHeader::new(l.four(1)).show(out),
+        b"mbr_get" => given(l, x).get(l.number(49)).show(out),
+        b"mbr_extended" => given(l, x).get_extended_partition().show(out),
         b"mbr_copy" => match given(l, x).is_copy_protected() {
-            Protection::No => false.show(out)?,
-            Protection::Yes => true.show(out)?,
-            Protection::Neither => write!(out, " neither")?,
+            Protection::No => false.show(out),
+            Protection::Yes => true.show(out),
+            Protection::Neither => text(out, b" neither"),
         },
-        _ => return Ok(false),
+        _ => return false,
     }
-    Ok(true)
+    true
 }

@@ -1,7 +1,6 @@
 // Careful push and careful removal on the extract in X, with O lent for the stores.
 use case_show::line::Line;
 use case_show::show::{Out, answered};
-use std::io;
 use table_push::{Geometry, Request};
 
 fn request(l: Line<'_>) -> Request {
@@ -19,12 +18,12 @@ fn request(l: Line<'_>) -> Request {
 }
 
 // Answers the line if its command is one of these: the number of stores, or the refusal; then O's length and checksum.
-pub fn run(out: &mut Out, l: Line<'_>, x: &[u8], o: &mut [u8]) -> io::Result<bool> {
+pub fn run(out: &mut Out, l: Line<'_>, x: &[u8], o: &mut [u8]) -> bool {
     let stores = match l.word(0) {
         b"careful_push" => careful_push::careful_push(x, request(l), o),
         b"careful_remove" => careful_remove::careful_remove(x, l.number(1), o),
-        _ => return Ok(false),
+        _ => return false,
     };
-    answered(out, &stores, o)?;
-    Ok(true)
+    answered(out, &stores, o);
+    true
 }

@@ -2,69 +2,73 @@
 ghost use Rattle.std.specs.Prelude.{◌<◌};
 
 use base::Refusal;
-use std::io;
 use std::io::{BufWriter, Stdout, Write};
 
 // Standard output, written in large pieces; the last one is written when this is let go.
 pub type Out = BufWriter<Stdout>;
 
+// A write that fails is passed over, here and below: what stands behind it is written.
+pub fn text(out: &mut Out, s: &[u8]) {
+    let _ = out.write_all(s);
+}
+
 pub trait Show {
-    fn show(&self, out: &mut Out) -> io::Result<()>;
+    fn show(&self, out: &mut Out);
 }
 
-impl Show for u8 {
-    fn show(&self, out: &mut Out) -> io::Result<()> {
-        write!(out, " {self}")
-    }
-}
-
-impl Show for u16 {
-    fn show(&self, out: &mut Out) -> io::Result<()> {
-        write!(out, " {self}")
+impl Show for u64 {
+    fn show(&self, out: &mut Out) {
+        let _ = write!(out, " {self}");
     }
 }
 
 impl Show for u32 {
-    fn show(&self, out: &mut Out) -> io::Result<()> {
-        write!(out, " {self}")
+    fn show(&self, out: &mut Out) {
+        u64::from(*self).show(out);
     }
 }
 
-impl Show for u64 {
-    fn show(&self, out: &mut Out) -> io::Result<()> {
-        write!(out, " {self}")
+impl Show for u16 {
+    fn show(&self, out: &mut Out) {
+        u64::from(*self).show(out);
+    }
+}
+
+impl Show for u8 {
+    fn show(&self, out: &mut Out) {
+        u64::from(*self).show(out);
     }
 }
 
 impl Show for usize {
-    fn show(&self, out: &mut Out) -> io::Result<()> {
-        write!(out, " {self}")
+    fn show(&self, out: &mut Out) {
+        (*self as u64).show(out);
     }
 }
 
 impl Show for bool {
-    fn show(&self, out: &mut Out) -> io::Result<()> {
-        write!(out, "{}", if *self { " yes" } else { " no" })
+    fn show(&self, out: &mut Out) {
+        text(out, if *self { b" yes" } else { b" no" });
     }
 }
 
 impl Show for () {
-    fn show(&self, out: &mut Out) -> io::Result<()> {
-        write!(out, " done")
+    fn show(&self, out: &mut Out) {
+        text(out, b" done");
     }
 }
 
 impl<T: Show> Show for Option<T> {
-    fn show(&self, out: &mut Out) -> io::Result<()> {
+    fn show(&self, out: &mut Out) {
         match self {
             Some(v) => v.show(out),
-            None => write!(out, " none"),
+            None => text(out, b" none"),
         }
     }
 }
 
 impl<T: Show> Show for Result<T, Refusal> {
-    fn show(&self, out: &mut Out) -> io::Result<()> {
+    fn show(&self, out: &mut Out) {
         match self {
             Ok(v) => v.show(out),
             Err(r) => r.show(out),
@@ -73,9 +77,9 @@ impl<T: Show> Show for Result<T, Refusal> {
 }
 
 impl Show for Refusal {
-    fn show(&self, out: &mut Out) -> io::Result<()> {
-        let number = self.number();
-        write!(out, " refused {number}")
+    fn show(&self, out: &mut Out) {
+        text(out, b" refused");
+        self.number().show(out);
     }
 }
 
@@ -84,11 +88,10 @@ impl Show for Refusal {
 pub struct Hex<'a>(pub &'a [u8]);
 
 impl Show for Hex<'_> {
-    fn show(&self, out: &mut Out) -> io::Result<()> {
+    fn show(&self, out: &mut Out) {
         for b in self.0 {
-            write!(out, " {b:02x}")?;
+            let _ = write!(out, " {b:02x}");
         }
-        Ok(())
     }
 }
 
@@ -106,14 +109,14 @@ fn more(sum: u64, b: u8) -> u64
 }
 
 impl Show for Checksum<'_> {
-    fn show(&self, out: &mut Out) -> io::Result<()> {
+    fn show(&self, out: &mut Out) {
         self.0.iter().fold(0, |sum, b| more(sum, *b)).show(out)
     }
 }
 
 // What a call that was lent O answered, then O's length and checksum.
-pub fn answered<T: Show>(out: &mut Out, answer: &T, o: &[u8]) -> io::Result<()> {
-    answer.show(out)?;
-    o.len().show(out)?;
+pub fn answered<T: Show>(out: &mut Out, answer: &T, o: &[u8]) {
+    answer.show(out);
+    o.len().show(out);
     Checksum(o).show(out)
 }

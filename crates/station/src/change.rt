@@ -1,7 +1,7 @@
 // The careful changes of a disk: its extract collected, the change asked of the library, and its stores put or shown.
 use base::Refusal;
 use careful_push::between::order_at;
-use careful_stores::STORE;
+use careful_stores::push_stores::STORES;
 use extract::LARGEST;
 use station_disk::first_sector::FirstSector;
 use station_disk::gather::gather;
@@ -33,12 +33,19 @@ impl From<Told> for NotDone {
     }
 }
 
+// A word and its number on standard output, each part whether or not the one before it could be written.
+fn say(rt: &HostRuntime, word: &[u8], number: usize) {
+    let _ = rt.write_all(word);
+    let _ = print!(rt; "{number}");
+    let _ = rt.write_all(b"\n");
+}
+
 // The last words on standard output: after a push the new partition's number, then that it is done; or what else became of it.
 pub fn end(rt: &HostRuntime, made: Result<Option<usize>, NotDone>) {
     match made {
         Ok(number) => {
             if let Some(number) = number {
-                let _ = println!(rt; "number {number}");
+                say(rt, b"number ", number);
             }
             if println!(rt; "done").is_err() {
                 let _ = errors::failed(
@@ -48,8 +55,7 @@ pub fn end(rt: &HostRuntime, made: Result<Option<usize>, NotDone>) {
             }
         }
         Err(NotDone::Refused(r)) => {
-            let number = r.number();
-            let _ = println!(rt; "refused {number}");
+            say(rt, b"refused ", usize::from(r.number()));
         }
         Err(NotDone::Failed) => {
             let _ = println!(rt; "failed");
@@ -93,18 +99,18 @@ fn stores_of(rt: &HostRuntime, wish: Wish, x: &[u8], out: &mut [u8]) -> Result<u
         Wish::Remove(number) => careful_remove::careful_remove(x, number, out),
     };
     made.map_err(|r| {
-        errors::refused(rt, r);
+        errors::refused(rt, r.number());
         NotDone::Refused(r)
     })
 }
 
 // The number that the new partition of a push gets: it stands behind all up to the last EBR at or below its own, which is the first
 // store.
-fn number_of(x: &[u8], first: &[u8; STORE]) -> Option<usize> {
+fn number_of(x: &[u8], out: &[u8]) -> Option<usize> {
     let Ok(t) = read_table::read_from(x) else {
         return None;
     };
-    Some(order_at(t, Store::of(first).lba) + 5)
+    Some(order_at(t, Store::of(out).lba) + 5)
 }
 
 // The change of the disk, or the change shown: the new partition's number after a push.
@@ -128,18 +134,17 @@ pub fn on_disk(
     other_size::holds(rt, &disk, sector, named, x)?;
     first_sector::show_guid(rt, x);
     may_overwrite(rt, wish, x)?;
-    let mut out = [[0u8; STORE]; 2];
-    let n = stores_of(rt, wish, x, out.as_flattened_mut())?;
-    let stores = out.get(..n).unwrap_or(&out);
+    let mut out = [0u8; STORES];
+    let n = stores_of(rt, wish, x, &mut out)?;
     if dry {
-        output::show_change(rt, x, stores)?;
+        output::show_change(rt, x, &out, n)?;
     } else {
         save::save(rt, x)?;
         is_unchanged(rt, &disk, sector, x)?;
-        put::put_all(rt, &disk, sector, stores)?;
+        put::put_all(rt, &disk, sector, &out, n)?;
     }
     match wish {
-        Wish::Push { .. } => Ok(number_of(x, &out[0])),
+        Wish::Push { .. } => Ok(number_of(x, &out)),
         Wish::Remove(_) => Ok(None),
     }
 }

@@ -23,7 +23,7 @@ fn warn(rt: &HostRuntime, x: &[u8]) {
 
 // list and extract: the listing of the disk, or its extract, if no other sector size speaks against it.
 fn look(rt: &HostRuntime, command: Command) -> Result<(), Told> {
-    options::are_known(rt, command, 3)?;
+    options::are_known(rt, Some(command), 3)?;
     args::is_single(rt, 3, "--sector")?;
     let sector = size::wanted(rt, 3)?;
     let disk = open::to_read(rt)?;
@@ -37,7 +37,7 @@ fn look(rt: &HostRuntime, command: Command) -> Result<(), Told> {
         return output::show(rt, x);
     }
     if let Err(r) = read_table::read_from(x) {
-        errors::refused(rt, r);
+        errors::refused(rt, r.number());
         return Err(Told);
     }
     warn(rt, x);

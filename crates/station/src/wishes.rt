@@ -34,7 +34,7 @@ fn begin(
     wish: Wish,
 ) -> Result<Option<usize>, NotDone> {
     let dry = args::flag(rt, from, "--dry-run");
-    options::are_known(rt, command, from)?;
+    options::are_known(rt, Some(command), from)?;
     options::are_single(rt, from)?;
     save_fits(rt, from, dry)?;
     let sector = size::wanted(rt, from)?;

@@ -66,10 +66,10 @@ pub fn show_other(rt: &HostRuntime, x: &[u8]) {
         return;
     };
     let lba = e.starting_lba;
-    errors::warning(
+    errors::line(
         rt,
         format_args!(
-            "sector {lba}, where the extended partition begins, is no boot record and not empty; sfdisk may still show zones that are not listed here"
+            "warning: sector {lba}, where the extended partition begins, is no boot record and not empty; sfdisk may still show zones that are not listed here"
         ),
     );
     show_record(rt, extract::look_up_record::look_up(x, lba));

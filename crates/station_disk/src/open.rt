@@ -24,7 +24,7 @@ fn not_opened(rt: &HostRuntime, what: &[u8], why: &io::Error) -> Told {
     errors::system(rt, what, why);
     let mut space = [0u8; args::LONGEST];
     errors::text(rt, "failed: the disk cannot be opened: ");
-    errors::bytes(rt, args::bytes(rt, 2, &mut space));
+    errors::text(rt, args::bytes(rt, 2, &mut space));
     errors::text(rt, "\n");
     Told
 }

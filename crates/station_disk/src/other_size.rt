@@ -50,11 +50,14 @@ pub fn holds(
     }
     match better(disk, sector) {
         None => Ok(()),
-        Some(other) => Err(errors::failed(
-            rt,
-            format_args!(
-                "with sectors of {sector} bytes the extended partition has no chain, with {other} it has one: name the sector size by --sector"
-            ),
-        )),
+        Some(other) => {
+            errors::line(
+                rt,
+                format_args!(
+                    "failed: with sectors of {sector} bytes the extended partition has no chain, with {other} it has one: name the sector size by --sector"
+                ),
+            );
+            Err(Told)
+        }
     }
 }

@@ -1,4 +1,5 @@
 // What a command writes on standard output: a listing, and what a change would do.
+use crate::store;
 use crate::store::Store;
 use careful_stores::STORE;
 use extract::LARGEST;
@@ -23,7 +24,7 @@ pub fn show_listing(rt: &HostRuntime, x: &[u8]) -> Result<(), Told> {
     match read_listing::listing(x, &mut text) {
         Ok(n) => show(rt, text.get(..n).unwrap_or(&text)),
         Err(r) => {
-            errors::refused(rt, r);
+            errors::refused(rt, r.number());
             Err(Told)
         }
     }
@@ -32,7 +33,9 @@ pub fn show_listing(rt: &HostRuntime, x: &[u8]) -> Result<(), Told> {
 // The lines of a store's record, of 16 bytes with their offset in front, that are not all zeros.
 fn write_store(rt: &HostRuntime, s: Store<'_>) -> io::Result<()> {
     let lba = s.lba;
-    println!(rt; "store {lba}")?;
+    rt.write_all(b"store ")?;
+    print!(rt; "{lba}")?;
+    rt.write_all(b"\n")?;
     for (i, line) in s.record.chunks(16).enumerate() {
         if line.iter().any(|b| *b != 0) {
             let at = i.saturating_mul(16);
@@ -54,8 +57,9 @@ fn show_after(rt: &HostRuntime, x: &[u8], stores: &[[u8; STORE]]) -> Result<(), 
     show_after(rt, y.get(..n).unwrap_or(&y), others)
 }
 
-// The table before a change, its stores and the table after it.
-pub fn show_change(rt: &HostRuntime, x: &[u8], stores: &[[u8; STORE]]) -> Result<(), Told> {
+// The table before a change, its first n stores in the bytes of the change and the table after it.
+pub fn show_change(rt: &HostRuntime, x: &[u8], out: &[u8], n: usize) -> Result<(), Told> {
+    let stores = store::first(out, n);
     show(rt, b"before\n")?;
     show_listing(rt, x)?;
     for bytes in stores {

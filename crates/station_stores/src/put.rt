@@ -1,6 +1,6 @@
 // Stores put on an open disk, each flushed to the medium before the next one, and read back.
+use crate::store;
 use crate::store::Store;
-use careful_stores::STORE;
 use station_disk::sectors;
 use station_words::errors;
 use station_words::errors::Told;
@@ -85,13 +85,18 @@ fn put(rt: &HostRuntime, disk: &File, sector: u32, s: Store<'_>) -> Result<(), T
     Ok(())
 }
 
-// The stores, in their order.
+// The first n stores in the bytes of a change, in their order; none where fewer are there.
 pub fn put_all(
     rt: &HostRuntime,
     disk: &File,
     sector: u32,
-    stores: &[[u8; STORE]],
+    out: &[u8],
+    n: usize,
 ) -> Result<(), Told> {
+    let stores = store::first(out, n);
+    if stores.len() < n {
+        return Err(errors::failed(rt, NOT_WRITTEN));
+    }
     for bytes in stores {
         put(rt, disk, sector, Store::of(bytes))?;
     }

@@ -8,10 +8,23 @@ pub struct Store<'a> {
 }
 
 impl<'a> Store<'a> {
-    pub fn of(bytes: &'a [u8; STORE]) -> Store<'a> {
-        Store {
-            lba: u32::from_le_bytes([bytes[0], bytes[1], bytes[2], bytes[3]]),
-            record: &bytes[4..],
+    // LBA 0 and no record where there are fewer bytes than an LBA has.
+    pub fn of(bytes: &'a [u8]) -> Store<'a> {
+        match bytes.split_first_chunk() {
+            Some((lba, record)) => Store {
+                lba: u32::from_le_bytes(*lba),
+                record,
+            },
+            None => Store {
+                lba: 0,
+                record: &[],
+            },
         }
     }
+}
+
+// The first n stores, of whole ones as many as there are.
+pub fn first(out: &[u8], n: usize) -> &[[u8; STORE]] {
+    let (stores, _) = out.as_chunks();
+    stores.get(..n).unwrap_or(stores)
 }

@@ -4,6 +4,7 @@ ghost use Rattle.std.specs.Prelude.{◌≡◌, ◌<◌, IfSome};
 use crate::errors::Told;
 use crate::wrong;
 use std::env::{Env, FillError};
+use std::io::AsBytes;
 use std::str;
 use std::str::FromStr;
 
@@ -27,9 +28,9 @@ pub fn is_there(rt: &HostRuntime, i: usize) -> bool {
 }
 
 // Is the argument this word?
-pub fn is(rt: &HostRuntime, i: usize, word: &str) -> bool {
+pub fn is<W: AsBytes + Drop>(rt: &HostRuntime, i: usize, word: W) -> bool {
     let mut space = [0u8; LONGEST];
-    bytes(rt, i, &mut space) == word.as_bytes()
+    bytes(rt, i, &mut space) == word.as_byte_slice()
 }
 
 // The decimal number that the bytes spell.
@@ -56,14 +57,15 @@ pub fn number(rt: &HostRuntime, i: usize) -> Option<u32> {
 const NUMBER: &str = "a whole number up to 4294967295";
 
 // The number that the argument of a name spells.
-pub fn number_for(rt: &HostRuntime, i: usize, name: &str) -> Result<u32, Told> {
+pub fn number_for<W: AsBytes + Drop>(rt: &HostRuntime, i: usize, name: W) -> Result<u32, Told> {
     number(rt, i).ok_or_else(|| wrong::argument(rt, i, name, NUMBER))
 }
 
 // The first argument from a place on that is this word.
-pub fn find(rt: &HostRuntime, from: usize, word: &str) -> Option<usize>
+pub fn find<W: AsBytes + Drop>(rt: &HostRuntime, from: usize, word: W) -> Option<usize>
     ensures { IfSome result (λ i. i < 24) }
 {
+    let word = word.as_byte_slice();
     for i in from..MOST {
         if is(rt, i, word) {
             return Some(i);
@@ -73,20 +75,30 @@ pub fn find(rt: &HostRuntime, from: usize, word: &str) -> Option<usize>
 }
 
 // The number behind an option from a place on, or what stands for it.
-pub fn option_for(rt: &HostRuntime, from: usize, word: &str, other: u32) -> Result<u32, Told> {
+pub fn option_for<W: AsBytes + Drop, N: From<u32> + Drop>(
+    rt: &HostRuntime,
+    from: usize,
+    word: W,
+    other: N,
+) -> Result<N, Told> {
+    let word = word.as_byte_slice();
     let Some(i) = find(rt, from, word) else {
         return Ok(other);
     };
-    number(rt, i + 1).ok_or_else(|| wrong::behind(rt, i + 1, word, NUMBER))
+    match number(rt, i + 1) {
+        Some(n) => Ok(N::from(n)),
+        None => Err(wrong::behind(rt, i + 1, word, NUMBER)),
+    }
 }
 
 // Is the option there?
-pub fn flag(rt: &HostRuntime, from: usize, word: &str) -> bool {
+pub fn flag<W: AsBytes + Drop>(rt: &HostRuntime, from: usize, word: W) -> bool {
     find(rt, from, word).is_some()
 }
 
 // Is the option there once at most?
-pub fn is_single(rt: &HostRuntime, from: usize, word: &str) -> Result<(), Told> {
+pub fn is_single<W: AsBytes + Drop>(rt: &HostRuntime, from: usize, word: W) -> Result<(), Told> {
+    let word = word.as_byte_slice();
     match find(rt, from, word) {
         Some(i) if flag(rt, i + 1, word) => Err(wrong::twice(rt, word)),
         _ => Ok(()),

@@ -1,35 +1,35 @@
 // What the program says on standard error.
-use base::Refusal;
 use std::fmt::Display;
-use std::io::Write;
-use std::{fmt, io};
+use std::io;
+use std::io::{AsBytes, Write};
 
 // What went wrong was said on standard error.
 #[derive(Clone, Copy, PartialEq, Eq, Debug)]
 pub struct Told;
 
-// Bytes that need not be text.
-pub fn bytes(rt: &HostRuntime, s: &[u8]) {
-    let _ = Print::write_all(&rt.stderr(), s);
+// Text, or bytes that need not be text.
+pub fn text<B: AsBytes + Drop>(rt: &HostRuntime, what: B) {
+    let _ = Print::write_all(&rt.stderr(), what.as_byte_slice());
 }
 
-pub fn text<D: Display + Drop>(rt: &HostRuntime, what: D) {
-    let _ = rt.eprint(what);
-}
-
+// A line of what can be shown.
 pub fn line<D: Display + Drop>(rt: &HostRuntime, what: D) {
     let _ = rt.eprintln(what);
 }
 
 // What went wrong outside the table: an argument, or a call of the system.
-pub fn failed<D: Display + Drop>(rt: &HostRuntime, why: D) -> Told {
-    let _ = eprintln!(rt; "failed: {why}");
+pub fn failed<B: AsBytes + Drop>(rt: &HostRuntime, why: B) -> Told {
+    text(rt, "failed: ");
+    text(rt, why);
+    text(rt, "\n");
     Told
 }
 
 // What an operator should know, though the command goes on.
-pub fn warning<D: Display + Drop>(rt: &HostRuntime, what: D) {
-    let _ = eprintln!(rt; "warning: {what}");
+pub fn warning<B: AsBytes + Drop>(rt: &HostRuntime, what: B) {
+    text(rt, "warning: ");
+    text(rt, what);
+    text(rt, "\n");
 }
 
 // The longest text of a failed call of the system, with its number.
@@ -49,58 +49,44 @@ pub fn system(rt: &HostRuntime, what: &[u8], e: &io::Error) {
         .windows(NUMBER.len())
         .position(|part| part == NUMBER)
         .unwrap_or(length);
-    bytes(rt, what);
+    text(rt, what);
     text(rt, ": ");
-    bytes(rt, &reason[..end]);
+    text(rt, &reason[..end]);
     text(rt, "\n");
 }
 
 // A refusal in the words of its rule.
-#[derive(Drop)]
-struct InWords(Refusal);
-
-impl Display for InWords {
-    fn fmt<W: fmt::Write>(&self, f: &mut fmt::Formatter<W>) -> fmt::Result {
-        let number = self.0.number();
-        let words = match self.0 {
-            Refusal::BadExtract => "the size is no whole number of sectors, or of too many",
-            Refusal::PastDisk => "the table leads past the end of the disk, or the disk is empty",
-            Refusal::InvalidSignature =>
-                "55 AA is missing in sector 0 or in a boot record of the chain",
-            Refusal::InvalidBootFlag =>
-                "a boot flag in sector 0 or in the chain is neither 00 nor 80",
-            Refusal::InconsistentEBR => {
-                "a link leads back: likely a chain not in disk order, as fdisk and parted leave it after deleting and adding; else it is damaged"
-            }
-            Refusal::TooManyLogicals => "24 logical partitions are there already, or more",
-            Refusal::Arithmetic =>
-                "a number is too large for the disk's fields, or is 0 where it must not be",
-            Refusal::NoExtendedPartition => "there is no extended partition",
-            Refusal::NotEnoughSectorsToCreateLogicalPartition =>
-                "too few sectors: twice the alignment is the least",
-            Refusal::EBRStartsBeforeExtendedPartition =>
-                "the start is before the extended partition",
-            Refusal::EBRStartsTooCloseToTheEndOfExtendedPartition =>
-                "the start is too near the end of the extended partition",
-            Refusal::EBREndsAfterExtendedPartition =>
-                "the partition would end after the extended partition",
-            Refusal::LBAExceedsMaximumCHS => "with this geometry the cylinder is above 1023",
-            Refusal::LBAExceedsMaximumCylinders => "the cylinder is above the geometry's",
-            Refusal::NoSuchLogical => "there is no logical partition of this number",
-            Refusal::NotSound => {
-                "the table is not sound: overlapping, empty or nested partitions, or a chain out of order"
-            }
-            Refusal::NoGap => {
-                "there is no gap for it: it would overlap a logical partition or a boot record, or stand between the two"
-            }
-            Refusal::BadRequest =>
-                "type 00 or an extended type, or a geometry of more than 63 sectors",
-            _ => "this should not happen: note down what you typed",
-        };
-        write!(f, "refused {number}: {words}")
+fn words(number: u8) -> &'static str {
+    match number {
+        1 => "the size is no whole number of sectors, or of too many",
+        2 => "the table leads past the end of the disk, or the disk is empty",
+        3 => "55 AA is missing in sector 0 or in a boot record of the chain",
+        4 => "a boot flag in sector 0 or in the chain is neither 00 nor 80",
+        5 => {
+            "a link leads back: likely a chain not in disk order, as fdisk and parted leave it after deleting and adding; else it is damaged"
+        }
+        6 => "24 logical partitions are there already, or more",
+        7 => "a number is too large for the disk's fields, or is 0 where it must not be",
+        8 => "there is no extended partition",
+        9 => "too few sectors: twice the alignment is the least",
+        10 => "the start is before the extended partition",
+        11 => "the start is too near the end of the extended partition",
+        12 => "the partition would end after the extended partition",
+        13 => "with this geometry the cylinder is above 1023",
+        14 => "the cylinder is above the geometry's",
+        17 => "there is no logical partition of this number",
+        20 => {
+            "the table is not sound: overlapping, empty or nested partitions, or a chain out of order"
+        }
+        21 => {
+            "there is no gap for it: it would overlap a logical partition or a boot record, or stand between the two"
+        }
+        23 => "type 00 or an extended type, or a geometry of more than 63 sectors",
+        _ => "this should not happen: note down what you typed",
     }
 }
 
-pub fn refused(rt: &HostRuntime, r: Refusal) {
-    line(rt, InWords(r));
+// A refusal, by its number.
+pub fn refused(rt: &HostRuntime, number: u8) {
+    line(rt, format_args!("refused {number}: {}", words(number)));
 }

@@ -1,6 +1,7 @@
 // The option that spells a geometry, C/H/S.
 use crate::errors::Told;
 use crate::{args, wrong};
+use std::io::AsBytes;
 use table_address::Geometry;
 
 // No geometry.
@@ -25,7 +26,8 @@ fn spelt(s: &[u8]) -> Option<Geometry> {
 }
 
 // The geometry behind an option, or none where the option is not there.
-pub fn option(rt: &HostRuntime, from: usize, word: &str) -> Result<Geometry, Told> {
+pub fn option<W: AsBytes + Drop>(rt: &HostRuntime, from: usize, word: W) -> Result<Geometry, Told> {
+    let word = word.as_byte_slice();
     let Some(i) = args::find(rt, from, word) else {
         return Ok(NONE);
     };

@@ -4,7 +4,8 @@ use std::io;
 // Writes the rest of a line: the bytes, each behind a space.
 pub fn line(to: &impl Print, s: &[u8]) -> io::Result<()> {
     for b in s {
-        print!(to; " {b:02x}")?;
+        to.write_all(b" ")?;
+        print!(to; "{b:02x}")?;
     }
-    println!(to;)
+    to.write_all(b"\n")
 }

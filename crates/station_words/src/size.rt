@@ -25,10 +25,13 @@ pub fn wanted(rt: &HostRuntime, from: usize) -> Result<u32, Told> {
             if asked == own {
                 return Ok(asked);
             }
-            Err(errors::failed(
+            errors::line(
                 rt,
-                format_args!("--sector says {asked}, but the device's own sector size is {own}"),
-            ))
+                format_args!(
+                    "failed: --sector says {asked}, but the device's own sector size is {own}"
+                ),
+            );
+            Err(Told)
         }
     }
 }

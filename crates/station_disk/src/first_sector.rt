@@ -66,11 +66,11 @@ pub fn show_other(rt: &HostRuntime, x: &[u8]) {
         return;
     };
     let lba = e.starting_lba;
-    errors::line(
+    errors::with_number(
         rt,
-        format_args!(
-            "warning: sector {lba}, where the extended partition begins, is no boot record and not empty; sfdisk may still show zones that are not listed here"
-        ),
+        "warning: sector ",
+        lba,
+        ", where the extended partition begins, is no boot record and not empty; sfdisk may still show zones that are not listed here\n",
     );
     show_record(rt, extract::look_up_record::look_up(x, lba));
 }

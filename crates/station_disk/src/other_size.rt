@@ -51,11 +51,17 @@ pub fn holds(
     match better(disk, sector) {
         None => Ok(()),
         Some(other) => {
-            errors::line(
+            errors::with_number(
                 rt,
-                format_args!(
-                    "failed: with sectors of {sector} bytes the extended partition has no chain, with {other} it has one: name the sector size by --sector"
-                ),
+                "failed: with sectors of ",
+                sector,
+                " bytes the extended partition has no chain, with ",
+            );
+            errors::with_number(
+                rt,
+                "",
+                other,
+                " it has one: name the sector size by --sector\n",
             );
             Err(Told)
         }

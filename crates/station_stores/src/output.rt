@@ -57,9 +57,9 @@ fn show_after(rt: &HostRuntime, x: &[u8], stores: &[[u8; STORE]]) -> Result<(), 
     show_after(rt, y.get(..n).unwrap_or(&y), others)
 }
 
-// The table before a change, its first n stores in the bytes of the change and the table after it.
+// The table before a change, its one or two stores and the table after it.
 pub fn show_change(rt: &HostRuntime, x: &[u8], out: &[u8], n: usize) -> Result<(), Told> {
-    let stores = store::first(out, n);
+    let stores = store::all(out, n);
     show(rt, b"before\n")?;
     show_listing(rt, x)?;
     for bytes in stores {

@@ -85,7 +85,7 @@ fn put(rt: &HostRuntime, disk: &File, sector: u32, s: Store<'_>) -> Result<(), T
     Ok(())
 }
 
-// The first n stores in the bytes of a change, in their order; none where fewer are there.
+// One or two stores in the bytes of a change, in their order; none where fewer are there.
 pub fn put_all(
     rt: &HostRuntime,
     disk: &File,
@@ -93,8 +93,8 @@ pub fn put_all(
     out: &[u8],
     n: usize,
 ) -> Result<(), Told> {
-    let stores = store::first(out, n);
-    if stores.len() < n {
+    let stores = store::all(out, n);
+    if stores.len() < store::count(n) {
         return Err(errors::failed(rt, NOT_WRITTEN));
     }
     for bytes in stores {

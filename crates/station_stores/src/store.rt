@@ -23,8 +23,13 @@ impl<'a> Store<'a> {
     }
 }
 
-// The first n stores, of whole ones as many as there are.
-pub fn first(out: &[u8], n: usize) -> &[[u8; STORE]] {
+// How many stores a change has that says `n`: one or two.
+pub fn count(n: usize) -> usize {
+    n.clamp(1, 2)
+}
+
+// The stores of a change that says `n`, of whole ones as many as there are.
+pub fn all(out: &[u8], n: usize) -> &[[u8; STORE]] {
     let (stores, _) = out.as_chunks();
-    stores.get(..n).unwrap_or(stores)
+    stores.get(..count(n)).unwrap_or(stores)
 }

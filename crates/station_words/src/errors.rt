@@ -12,9 +12,17 @@ pub fn text<B: AsBytes + Drop>(rt: &HostRuntime, what: B) {
     let _ = Print::write_all(&rt.stderr(), what.as_byte_slice());
 }
 
-// A line of what can be shown.
+// A line of what can be shown. Each part is written whether or not the one before it could be, here and below.
 pub fn line<D: Display + Drop>(rt: &HostRuntime, what: D) {
-    let _ = rt.eprintln(what);
+    let _ = rt.eprint(what);
+    text(rt, "\n");
+}
+
+// A number among texts.
+pub fn with_number<A: AsBytes + Drop, B: AsBytes + Drop>(rt: &HostRuntime, one: A, n: u32, two: B) {
+    text(rt, one);
+    let _ = rt.eprint(n);
+    text(rt, two);
 }
 
 // What went wrong outside the table: an argument, or a call of the system.
@@ -88,5 +96,6 @@ fn words(number: u8) -> &'static str {
 
 // A refusal, by its number.
 pub fn refused(rt: &HostRuntime, number: u8) {
-    line(rt, format_args!("refused {number}: {}", words(number)));
+    text(rt, "refused ");
+    line(rt, format_args!("{number}: {}", words(number)));
 }

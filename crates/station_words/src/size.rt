@@ -25,12 +25,13 @@ pub fn wanted(rt: &HostRuntime, from: usize) -> Result<u32, Told> {
             if asked == own {
                 return Ok(asked);
             }
-            errors::line(
+            errors::with_number(
                 rt,
-                format_args!(
-                    "failed: --sector says {asked}, but the device's own sector size is {own}"
-                ),
+                "failed: --sector says ",
+                asked,
+                ", but the device's own sector size is ",
             );
+            errors::with_number(rt, "", own, "\n");
             Err(Told)
         }
     }

@@ -61,8 +61,10 @@ pub fn behind<N: AsBytes + Drop, W: AsBytes + Drop>(
 pub fn word<W: AsBytes + Drop>(rt: &HostRuntime, i: usize, what: W) -> Told {
     errors::text(rt, "failed: ");
     quote(rt, i);
-    errors::text(rt, " is not understood");
-    expected(rt, what)
+    errors::text(rt, " is not understood, expected ");
+    errors::text(rt, what);
+    errors::text(rt, "\n");
+    Told
 }
 
 // An option is there twice.

@@ -24,12 +24,12 @@ impl<'a> Store<'a> {
 }
 
 // How many stores a change has that says `n`: one or two.
-pub fn count(n: usize) -> usize {
+pub(crate) fn count(n: usize) -> usize {
     n.clamp(1, 2)
 }
 
 // The stores of a change that says `n`, of whole ones as many as there are.
-pub fn all(out: &[u8], n: usize) -> &[[u8; STORE]] {
+pub(crate) fn all(out: &[u8], n: usize) -> &[[u8; STORE]] {
     let (stores, _) = out.as_chunks();
     stores.get(..count(n)).unwrap_or(stores)
 }

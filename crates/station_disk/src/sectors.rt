@@ -82,10 +82,36 @@ pub fn offset(sector: u32, lba: u32) -> io::Result<u64> {
     extract::byte_place(sector, lba).map_err(|_| io::Error::from(ErrorKind::InvalidInput))
 }
 
-// Reads the sector from its start on, as many bytes as `d` has; a read that gives fewer has failed.
+// Reads the sector from its start on, as many bytes as `d` has; a read that gives fewer has failed. For no byte nothing is read.
 pub fn read_at(disk: &File, sector: u32, lba: u32, d: &mut [u8]) -> io::Result<()> {
-    match disk.read_at(d, offset(sector, lba)?)? == d.len() {
+    let at = offset(sector, lba)?;
+    if d.is_empty() {
+        return Ok(());
+    }
+    match disk.read_at(d, at)? == d.len() {
         true => Ok(()),
         false => Err(io::Error::from(ErrorKind::UnexpectedEof)),
+    }
+}
+
+#[cfg(test)]
+mod tests {
+    use super::*;
+    use std::fs::OpenOptions;
+    use std::test::Fail;
+    use std::{env, fs, process};
+
+    #[test]
+    fn no_byte_is_read(rt: HostRuntime) -> Result<(), Fail> {
+        let name = format!(in rt.alloc(); "crumbvessel-read-at-{}", process::id(rt.process()))?;
+        let path = env::temp_dir(&rt)?.join(rt.alloc(), name.as_str())?;
+        let disk = OpenOptions::new()
+            .write(true)
+            .create_new(true)
+            .open(&rt, &path)?;
+        fs::remove_file(&rt, &path)?;
+        assert!(rt; read_at(&disk, 512, 0, &mut [0; 1]).is_err());
+        assert!(rt; read_at(&disk, 512, 0, &mut []).is_ok());
+        Ok(())
     }
 }

@@ -137,11 +137,11 @@ pub fn on_disk(
     let mut out = [0u8; STORES];
     let n = stores_of(rt, wish, x, &mut out)?;
     if dry {
-        output::show_change(rt, x, &out, n)?;
+        output::show_counted(rt, x, &out, n)?;
     } else {
         save::save(rt, x)?;
         is_unchanged(rt, &disk, sector, x)?;
-        put::put_all(rt, &disk, sector, &out, n)?;
+        put::put_counted(rt, &disk, sector, &out, n)?;
     }
     match wish {
         Wish::Push { .. } => Ok(number_of(x, &out)),

@@ -58,7 +58,7 @@ fn show_after(rt: &HostRuntime, x: &[u8], stores: &[[u8; STORE]]) -> Result<(), 
 }
 
 // The table before a change, its one or two stores and the table after it.
-pub fn show_change(rt: &HostRuntime, x: &[u8], out: &[u8], n: usize) -> Result<(), Told> {
+pub fn show_counted(rt: &HostRuntime, x: &[u8], out: &[u8], n: usize) -> Result<(), Told> {
     let stores = store::all(out, n);
     show(rt, b"before\n")?;
     show_listing(rt, x)?;
@@ -69,4 +69,15 @@ pub fn show_change(rt: &HostRuntime, x: &[u8], out: &[u8], n: usize) -> Result<(
     // where a store is missing, nothing is read
     let whole = stores.len() == store::count(n);
     show_after(rt, if whole { x } else { &[] }, stores)
+}
+
+// The table before a change, its stores and the table after it.
+pub fn show_change(rt: &HostRuntime, x: &[u8], stores: &[[u8; STORE]]) -> Result<(), Told> {
+    show(rt, b"before\n")?;
+    show_listing(rt, x)?;
+    for bytes in stores {
+        told(rt, write_store(rt, Store::of(bytes)))?;
+    }
+    show(rt, b"after\n")?;
+    show_after(rt, x, stores)
 }

@@ -1,6 +1,7 @@
 // Stores put on an open disk, each flushed to the medium before the next one, and read back.
 use crate::store;
 use crate::store::Store;
+use careful_stores::STORE;
 use station_disk::sectors;
 use station_words::errors;
 use station_words::errors::Told;
@@ -86,7 +87,7 @@ fn put(rt: &HostRuntime, disk: &File, sector: u32, s: Store<'_>) -> Result<(), T
 }
 
 // One or two stores in the bytes of a change, in their order; none where fewer are there.
-pub fn put_all(
+pub fn put_counted(
     rt: &HostRuntime,
     disk: &File,
     sector: u32,
@@ -101,4 +102,54 @@ pub fn put_all(
         put(rt, disk, sector, Store::of(bytes))?;
     }
     Ok(())
+}
+
+// The stores, in their order.
+pub fn put_all(
+    rt: &HostRuntime,
+    disk: &File,
+    sector: u32,
+    stores: &[[u8; STORE]],
+) -> Result<(), Told> {
+    for bytes in stores {
+        put_counted(rt, disk, sector, bytes, 1)?;
+    }
+    Ok(())
+}
+
+#[cfg(test)]
+mod tests {
+    use super::*;
+    use std::fs::OpenOptions;
+    use std::test::Fail;
+    use std::{env, fs, process};
+
+    // A store of a record of one byte, for an LBA below 256.
+    fn store(lba: u8, byte: u8) -> [u8; STORE] {
+        let mut s = [byte; STORE];
+        s[..4].copy_from_slice(&[lba, 0, 0, 0]);
+        s
+    }
+
+    #[test]
+    fn three_in_their_order(rt: HostRuntime) -> Result<(), Fail> {
+        let name = format!(in rt.alloc(); "crumbvessel-put-all-{}", process::id(rt.process()))?;
+        let path = env::temp_dir(&rt)?.join(rt.alloc(), name.as_str())?;
+        let disk = OpenOptions::new()
+            .read(true)
+            .write(true)
+            .create_new(true)
+            .open(&rt, &path)?;
+        fs::remove_file(&rt, &path)?;
+        disk.set_len(4 * 512)?;
+        assert_eq!(rt; put_all(&rt, &disk, 512, &[]), Ok(()));
+        let stores = [store(1, 17), store(3, 34), store(3, 51)];
+        assert_eq!(rt; put_all(&rt, &disk, 512, &stores), Ok(()));
+        for (lba, byte) in [(0, 0), (1, 17), (2, 0), (3, 51)] {
+            let mut back = [9u8; 512];
+            sectors::read_at(&disk, 512, lba, &mut back)?;
+            assert_eq!(rt; back, [byte; 512], "sector {lba}");
+        }
+        Ok(())
+    }
 }

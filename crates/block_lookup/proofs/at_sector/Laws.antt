@@ -45,7 +45,7 @@ found-small t s n e = go (ltb n 5) refl
         let q = found-logical t s n e p in
         omega (arith, q.0, q.1)
 
--- what a hit leads to is a number of 32 bits, where the hit's own is
+-- what a hit leads to, in a table that holds no more than it may, is a number of 32 bits where the hit's own is
 pub turned-small : (t : MBR) (s n m : ℕ) (e : MBRPartitionEntry) → t.count ≤ most → m < 2 ^ 32 → turned t s (Some (numbered m e)) ≡ gives (Some n) → n < 2 ^ 32
 unfolding among_logicals
 turned-small t s n m e c h q = go (extended e.sys) q

@@ -1,24 +1,23 @@
 -- What the search among the primaries leads to. Assumes nothing.
 use mathlib.Core.Path.{◌≡◌, refl, ◌∙◌}
 use mathlib.Core.Bool.{Bool, true, false}
-use Rattle.std.specs.Prelude.{Option, None, Some, min}
+use Rattle.std.specs.Prelude.{Option, Some}
 use Prim.Native.Nat.{ℕ, ◌+◌, ◌≤◌, ◌<◌, ◌^◌}
 use native.Mathlib.Omega.{arith}
 use lib.Dec.{ltb}
-use lib.ListN.{length, get_or, drop, length-map, length-take}
+use lib.ListN.{length, get_or, drop}
 use borrow.Author.Tests.{le-leb, ltb-true, ltb-false}
 use Rattle.base.specs.Pick.{pick}
-use Rattle.base.specs.Said.{Said, gives, refuses, and_then}
+use Rattle.base.specs.Said.{Said, gives, and_then}
 use Rattle.record_entry.specs.declared.MBRPartitionEntry.{MBRPartitionEntry}
 use Rattle.record_entry.specs.Entry.{no_entry, extended}
 use Rattle.record_mbr.specs.Mbr.{primaries}
 use Rattle.table.specs.declared.MBR.{MBR}
-use Rattle.table.specs.Table.{logicals, parts, most}
+use Rattle.table.specs.Table.{most}
 use Rattle.table_lookup.specs.declared.hits.Numbered.{Numbered}
 use Rattle.table_lookup.specs.Hits.{holds_says, first_at, among_logicals, numbered}
 use Rattle.table_lookup.specs.Find.{number_of, turned, find_says}
-use Rattle.table_lookup.proofs.hits.Search.{within}
-use Rattle.table_lookup.proofs.at_sector.Search.{found-logical}
+use Rattle.table_lookup.proofs.at_sector.Search.{among-few, found-logical}
 use Rattle.block_lookup.proofs.after_hit.Laws.{hit}
 
 pub leads : (t : MBR) (s : ℕ) (f : Said (Option Numbered)) → t.count ≤ most → first_at s 1 (primaries t.header) ≡ f → find_says t s ≡ and_then f (turned t s)
@@ -47,19 +46,8 @@ found-small t s n e = go (ltb n 5) refl
 
 -- what a hit leads to, in a table that holds no more than it may, is a number of 32 bits where the hit's own is
 pub turned-small : (t : MBR) (s n m : ℕ) (e : MBRPartitionEntry) → t.count ≤ most → m < 2 ^ 32 → turned t s (Some (numbered m e)) ≡ gives (Some n) → n < 2 ^ 32
-unfolding among_logicals
 turned-small t s n m e c h q = go (extended e.sys) q
   where
-    logical : (f : Said (Option Numbered)) → among_logicals t s ≡ f → number_of f ≡ gives (Some n) → n < 2 ^ 32
-    logical (gives None) x g = let w : ◌≡◌ {A = ℕ} 0 1 = cc in absurd (omega arith)
-    logical (gives (Some k)) x g =
-        let v : k.number ≡ n = cc in
-        let w = within s 5 (parts (logicals t)) k x in
-        let l : length (parts (logicals t)) ≡ min t.count (length t.logical_partitions) =
-        length-map (logicals t) _ ∙ length-take t.count t.logical_partitions in
-        omega arith
-    logical (refuses k) x g = let w : ◌≡◌ {A = ℕ} 0 1 = cc in absurd (omega arith)
-
     go : (b : Bool) → pick b (number_of (among_logicals t s)) (gives (Some m)) ≡ gives (Some n) → n < 2 ^ 32
-    go true g = logical (among_logicals t s) refl g
+    go true g = omega (arith, among-few t s n g, c)
     go false g = let k : m ≡ n = cc in omega (arith, k, h)

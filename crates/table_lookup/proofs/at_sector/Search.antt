@@ -2,7 +2,7 @@
 use mathlib.Core.Path.{◌≡◌, refl, ◌∙◌}
 use mathlib.Core.Bool.{Bool, true, false}
 use Rattle.std.specs.Prelude.{Option, None, Some}
-use Prim.Native.Nat.{ℕ, ◌-◌, ◌≤◌, ◌<◌}
+use Prim.Native.Nat.{ℕ, ◌+◌, ◌-◌, ◌≤◌, ◌<◌}
 use native.Mathlib.Omega.{arith}
 use lib.Dec.{leb}
 use Rattle.std.specs.Prelude.{min}
@@ -19,23 +19,28 @@ use Rattle.table_lookup.specs.Hits.{first_at, among_logicals}
 use Rattle.table_lookup.specs.Find.{number_of, turned, find_says}
 use Rattle.table_lookup.proofs.hits.Search.{within}
 
--- a logical partition's number is one of the table's
-pub found-logical : (t : MBR) (s n : ℕ) → find_says t s ≡ gives (Some n) → 5 ≤ n → (n - 5 < t.count) × (t.count ≤ most)
-unfolding find_says among_logicals
-found-logical t s n e p = counted (leb t.count most) refl e
+-- the number of a logical partition that holds a sector
+pub among-few : (t : MBR) (s n : ℕ) → number_of (among_logicals t s) ≡ gives (Some n) → n < 5 + t.count
+unfolding among_logicals
+among-few t s n = go (among_logicals t s) refl
   where
-    logical : t.count ≤ most → (f : Said (Option Numbered)) → among_logicals t s ≡ f → number_of f ≡ gives (Some n) → n - 5 < t.count
-    logical z (gives None) q g = let w : ◌≡◌ {A = ℕ} 0 1 = cc in absurd (omega arith)
-    logical z (gives (Some h)) q g =
+    go : (f : Said (Option Numbered)) → among_logicals t s ≡ f → number_of f ≡ gives (Some n) → n < 5 + t.count
+    go (gives None) q g = let w : ◌≡◌ {A = ℕ} 0 1 = cc in absurd (omega arith)
+    go (gives (Some h)) q g =
         let m : h.number ≡ n = cc in
         let w = within s 5 (parts (logicals t)) h q in
         let k : length (parts (logicals t)) ≡ min t.count (length t.logical_partitions) =
         length-map (logicals t) _ ∙ length-take t.count t.logical_partitions in
         omega arith
-    logical z (refuses k) q g = let w : ◌≡◌ {A = ℕ} 0 1 = cc in absurd (omega arith)
+    go (refuses k) q g = let w : ◌≡◌ {A = ℕ} 0 1 = cc in absurd (omega arith)
 
+-- a logical partition's number is one of the table's
+pub found-logical : (t : MBR) (s n : ℕ) → find_says t s ≡ gives (Some n) → 5 ≤ n → (n - 5 < t.count) × (t.count ≤ most)
+unfolding find_says
+found-logical t s n e p = counted (leb t.count most) refl e
+  where
     plain : t.count ≤ most → (b : Bool) (h : Numbered) → h.number < 5 → pick b (number_of (among_logicals t s)) (gives (Some h.number)) ≡ gives (Some n) → n - 5 < t.count
-    plain z true h m g = logical z (among_logicals t s) refl g
+    plain z true h m g = omega (arith, among-few t s n g, p)
     plain z false h m g =
         let k : h.number ≡ n = cc in
         absurd (omega arith)

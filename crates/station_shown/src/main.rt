@@ -17,9 +17,8 @@ fn record(x: &[u8], lba: u32) -> [u8; 512] {
 }
 
 // A store of a record in which an entry's type, start and sectors are put at a place.
-fn store(lba: u32, r: [u8; 512], at: usize, sys: u8, start: u32, sectors: u32) -> [u8; STORE] {
-    let mut record = r;
-    if let Some(e) = record.get_mut(at..) {
+fn store(lba: u32, mut r: [u8; 512], at: usize, sys: u8, start: u32, sectors: u32) -> [u8; STORE] {
+    if let Some(e) = r.get_mut(at..) {
         if 16 <= e.len() {
             e[4] = sys;
             base::put32(e, 8, start);
@@ -28,7 +27,7 @@ fn store(lba: u32, r: [u8; 512], at: usize, sys: u8, start: u32, sectors: u32) -
     }
     let mut s = [0u8; STORE];
     base::put32(&mut s, 0, lba);
-    s[4..].copy_from_slice(&record);
+    s[4..].copy_from_slice(&r);
     s
 }
 
